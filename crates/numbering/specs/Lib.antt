@@ -1,0 +1,4 @@
+pub mod Census
+pub mod Plans
+pub mod Refusals
+pub mod Tallies

@@ -1,0 +1,63 @@
+//! The words of the command line.
+
+use crate::failure::Failure;
+use spaces::kind::Kind;
+
+/// The words, and how many of them are read.
+#[derive(Drop)]
+pub struct Words<'a> {
+    words: &'a [String],
+    at: usize,
+}
+
+impl<'a> Words<'a> {
+    /// All words after the program's name.
+    pub fn new(words: &'a [String]) -> Words<'a> {
+        Words { words, at: 1 }
+    }
+
+    /// The next word, if there is one.
+    pub fn next(&mut self) -> Option<&'a str> {
+        if self.at >= self.words.len() {
+            return None;
+        }
+        let word = self.words[self.at].as_str();
+        self.at += 1;
+        Some(word)
+    }
+
+    /// The next word, which has to be there.
+    pub fn wanted(&mut self, missing: &'static str) -> Result<&'a str, Failure> {
+        match self.next() {
+            Some(word) => Ok(word),
+            None => Err(Failure::Usage(missing)),
+        }
+    }
+
+    /// Nothing may follow.
+    pub fn end(&mut self) -> Result<(), Failure> {
+        match self.next() {
+            Some(_) => Err(Failure::Usage("there is a word too many")),
+            None => Ok(()),
+        }
+    }
+}
+
+/// A number in decimal digits.
+pub fn number(word: &str, wrong: &'static str) -> Result<u64, Failure> {
+    match word.parse::<u64>() {
+        Ok(n) => Ok(n),
+        Err(_) => Err(Failure::Usage(wrong)),
+    }
+}
+
+/// The kind of a letter that stands alone.
+pub fn kind(word: &str) -> Result<Kind, Failure> {
+    let letters = word.as_bytes();
+    if letters.len() == 1 {
+        if let Some(kind) = Kind::from_letter(letters[0]) {
+            return Ok(kind);
+        }
+    }
+    Err(Failure::Usage("an operator is one letter of SIHMLFO"))
+}

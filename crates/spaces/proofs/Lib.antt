@@ -1,0 +1,3 @@
+pub mod Bushes
+pub mod Digits
+pub mod Places
