@@ -2,6 +2,7 @@ pub mod Checks
 pub mod Counts
 pub mod Cuts
 pub mod Fills
+pub mod Listings
 pub mod Picks
 pub mod Rolls
 pub mod Sizes

@@ -1,4 +1,5 @@
 pub mod Census
+pub mod Listings
 pub mod Plans
 pub mod Refusals
 pub mod Tallies

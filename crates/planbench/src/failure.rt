@@ -1,5 +1,6 @@
 //! Why the program stops with status 1.
 
+use memos::refusal::OpenRefusal;
 use numbering::refusal::Refusal;
 use spaces::refusal::MakeRefusal;
 use std::alloc::AllocError;
@@ -21,6 +22,9 @@ pub enum Failure {
     /// A call was refused.
     Refused(Told),
     NoMemory,
+    /// A file cannot be read.
+    Unread(io::Error),
+    /// The arguments cannot be had, or the answer cannot be written.
     Io(io::Error),
 }
 
@@ -30,6 +34,7 @@ pub impl fmt::Display for Failure as FailureDisplay {
             Failure::Usage(reason) => write!(f, "{reason}"),
             Failure::Refused(told) => told.fmt(f),
             Failure::NoMemory => write!(f, "out of memory"),
+            Failure::Unread(e) => write!(f, "cannot read the file: {e}"),
             Failure::Io(e) => write!(f, "{e}"),
         }
     }
@@ -51,6 +56,20 @@ pub impl From<MakeRefusal> for Failure as FailureFromMake {
         Failure::Refused(Told {
             number: refusal.number(),
             place: None,
+            reason: refusal.reason(),
+        })
+    }
+}
+
+/// A refusal without a number is want of memory.
+pub impl From<OpenRefusal> for Failure as FailureFromOpen {
+    fn from(refusal: OpenRefusal) -> Failure {
+        let Some(number) = refusal.number() else {
+            return Failure::NoMemory;
+        };
+        Failure::Refused(Told {
+            number,
+            place: refusal.place(),
             reason: refusal.reason(),
         })
     }

@@ -2,23 +2,28 @@
 
 mod count;
 mod failure;
+mod input;
+mod pile;
 mod words;
 
-use crate::count::show_count;
+use crate::count::run_count;
 use crate::failure::Failure;
 use crate::failure::FailureDisplay;
 use crate::failure::FailureFromAlloc;
 use crate::failure::FailureFromIo;
-use crate::failure::FailureFromMake;
 use crate::words::Words;
-use spaces::bushy::Bushy;
-use spaces::bushy::BushySpace;
 use std::env;
 
-const USAGE: &str = "usage: planbench count --bushy N LETTER
+const USAGE: &str = "usage: planbench count SPACE
        planbench help
 
+A SPACE is one source:
+  --memo FILE        a memo file; - is standard input
   --bushy N LETTER   all bushy trees over N relations, 1 to 10, with the join H (hash), M (merge) or L (nested loops)
+and then, from the bottom up, at most one of each over it:
+  --only LETTERS     only alternatives of these kinds, letters of SIHMLFO
+  --order WISH       every goal in any order and sorted, the root as wished: any or sorted
+  --only LETTERS     once more, above the order
 
 count prints how many plans the space holds and how many nodes the largest has.
 ";
@@ -27,31 +32,17 @@ count prints how many plans the space holds and how many nodes the largest has.
 #[derive(Drop)]
 struct Stopped;
 
-fn run_count(rt: &LibcRuntime, words: &mut Words) -> Result<(), Failure> {
-    match words.wanted("count what? name a space")? {
-        "--bushy" => {
-            let relations = words::number(
-                words.wanted("how many relations?")?,
-                "the number of relations is not a number",
-            )?;
-            let join = words::kind(words.wanted("which join?")?)?;
-            words.end()?;
-            show_count(rt, &Bushy::new(relations, join)?)
-        }
-        _ => Err(Failure::Usage("no such space")),
-    }
-}
-
 fn run(rt: &LibcRuntime) -> Result<(), Failure> {
     let args: Vec<String> = env::args(rt)?.collect(rt.alloc())?;
     let mut words = Words::new(&args);
-    match words.wanted("which command?")? {
+    match words.wanted("a command is wanted")? {
         "count" => run_count(rt, &mut words),
         "help" => {
+            words.end()?;
             rt.print(USAGE)?;
             Ok(())
         }
-        _ => Err(Failure::Usage("no such command")),
+        _ => Err(Failure::Usage("there is no such command")),
     }
 }
 

@@ -34,6 +34,15 @@ impl<'a> Words<'a> {
         }
     }
 
+    /// Reads the next word if it is this one, and tells whether it was.
+    pub fn skip(&mut self, word: &str) -> bool {
+        if self.at >= self.words.len() || self.words[self.at].as_str() != word {
+            return false;
+        }
+        self.at += 1;
+        true
+    }
+
     /// Nothing may follow.
     pub fn end(&mut self) -> Result<(), Failure> {
         match self.next() {
@@ -44,10 +53,10 @@ impl<'a> Words<'a> {
 }
 
 /// A number in decimal digits.
-pub fn number(word: &str, wrong: &'static str) -> Result<u64, Failure> {
+pub fn number(word: &str) -> Result<u64, Failure> {
     match word.parse::<u64>() {
         Ok(n) => Ok(n),
-        Err(_) => Err(Failure::Usage(wrong)),
+        Err(_) => Err(Failure::Usage("a number in decimal digits, below 2^64, is wanted")),
     }
 }
 
@@ -60,4 +69,16 @@ pub fn kind(word: &str) -> Result<Kind, Failure> {
         }
     }
     Err(Failure::Usage("an operator is one letter of SIHMLFO"))
+}
+
+/// The kinds of some letters, as the bits of a mask.
+pub fn kind_bits(letters: &str) -> Result<u8, Failure> {
+    let mut bits: u8 = 0;
+    for letter in letters.as_bytes() {
+        match Kind::from_letter(*letter) {
+            Some(kind) => bits |= 1 << kind.number(),
+            None => return Err(Failure::Usage("--only wants letters of SIHMLFO")),
+        }
+    }
+    Ok(bits)
 }

@@ -1,26 +1,25 @@
 -- The bushy trees: their lists read by places, and their laws.
-use mathlib.Core.Path.{_≡_, refl, sym, ap, _∙_, subst}
-use mathlib.Core.Bool.{Bool, true, false, cond}
+use mathlib.Core.Path.{_≡_, refl, sym, ap, _∙_}
 use mathlib.Core.List.{List, [], _∷_, map}
-use mathlib.Core.Logic.{_⊎_, inl, inr, ⊎-elim}
-use Prim.Native.Nat.{ℕ, zero, suc, _+_, _-_, _*_, _/_, _%_, _^_, _≤_, _<_, zero-le, suc-le-suc}
+use mathlib.Core.Logic.{_⊎_, ⊎-elim}
+use Prim.Native.Nat.{ℕ, zero, suc, _+_, _-_, _*_, _%_, _^_, _≤_, _<_, zero-le}
 use native.Mathlib.Omega.{arith}
-use lib.Dec.{eqb, ltb, lit≤}
+use lib.Dec.{eqb, ltb}
 use lib.ListN.{length}
 use lib.Pow.{pow-pos, pow-mono}
-use lib.Count.{ones, ones-le, trailingZeros, trailing-le}
+use lib.Count.{ones, ones-le, trailing-le}
 use Rattle.std.specs.Iters.{counting}
 use Rattle.std.specs.shelf.Lists.{All}
 use Rattle.std.specs.shelf.Maps.{nth}
 use Rattle.std.proofs.shelf.Maps.{nth-getD, nth-past}
 use Rattle.std.proofs.shelf.Counted.{length-map-counting, getD-map-counting}
 use Rattle.std.proofs.shelf.Bits.{one-shl}
-use Rattle.std.proofs.shelf.Tests.{cond-true, cond-false, cond-both, lt-ltb, le-ltb, ltb-true, eq-eqb, ne-eqb, eqb-true, eqb-false, cases-lt}
+use Rattle.std.proofs.shelf.Tests.{cond-true, cond-false, cond-both, lt-ltb, le-ltb, ltb-true, eq-eqb, ne-eqb, cases-lt}
 use Rattle.std.specs.declared.option.Option.the-variants.{Some, None}
 use Rattle.spaces.specs.declared.kind.Kind.{Kind}
 use Rattle.spaces.specs.declared.space.Alternative.{Alternative}
 use Rattle.spaces.specs.Kinds.{arity}
-use Rattle.spaces.specs.Spaces.{Meaning, Lawful, Apart, Sound}
+use Rattle.spaces.specs.Spaces.{Lawful, Apart, Sound}
 use Rattle.spaces.specs.Bushes.{deposit, scan, split, bushy-list, bushes}
 use Rattle.spaces.proofs.Digits.{dep-le, dep-zero, dep-full, dep-inj}
 

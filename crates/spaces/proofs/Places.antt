@@ -32,6 +32,12 @@ drop-some [] i a e = none-some e
 drop-some (x ∷ xs) zero a e = ap (λ y. y ∷ xs) (some-inj e)
 drop-some (x ∷ xs) (suc i) a e = rw (add-one (suc i)) (rw add-one at (drop-some xs i a e))
 
+pub drop-none : {X : Type 0} (xs : List X) (i : ℕ) → nth xs i ≡ None → drop i xs ≡ []
+drop-none [] zero e = refl
+drop-none [] (suc i) e = refl
+drop-none (x ∷ xs) zero e = none-some (sym e)
+drop-none (x ∷ xs) (suc i) e = drop-none xs i e
+
 pub all-nth : {X : Type 0} (P : X → Type 0) (xs : List X) (i : ℕ) (a : X) → All P xs → nth xs i ≡ Some a → P a
 all-nth P [] i a h e = none-some e
 all-nth P (x ∷ xs) zero a h e = subst P (some-inj e) (h .0)

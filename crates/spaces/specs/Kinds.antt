@@ -1,5 +1,5 @@
 -- The kinds of operator: number, letter and number of children.
-use Prim.Native.Nat.{ℕ, suc, zero}
+use Prim.Native.Nat.{ℕ}
 use Rattle.std.specs.declared.option.Option.{Option}
 use Rattle.std.specs.declared.option.Option.the-variants.{None, Some}
 use Rattle.spaces.specs.declared.kind.Kind.{Kind}

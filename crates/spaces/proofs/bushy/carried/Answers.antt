@@ -1,7 +1,6 @@
 use mathlib.Core.Path.{_≡_, ap, _∙_}
-use Prim.Native.Nat.{_+_, _<_}
+use Prim.Native.Nat.{_<_}
 use native.Mathlib.Omega.{arith}
-use native.Mathlib.Nat.{add-zero}
 use Rattle.spaces.specs.Bushes.{deposit}
 use Rattle.spaces.proofs.Digits.{shift-fits, low-pos, low-within, carry-one, carry-none, carry-end, dep-le}
 use Rattle.spaces.proofs.bushy.carried.Needs as need

@@ -1,10 +1,7 @@
-use mathlib.Core.Path.{_≡_, ap, _∙_}
-use Prim.Native.Nat.{ℕ, _+_, _-_, _<_, _≤_}
+use mathlib.Core.Path.{ap, _∙_}
+use Prim.Native.Nat.{ℕ, _+_, _-_, _<_}
 use native.Mathlib.Omega.{arith}
-use lib.ListN.{length}
-use Rattle.std.specs.declared.option.Option.the-variants.{Some, None}
-use Rattle.spaces.specs.declared.space.Alternative.{Alternative}
-use Rattle.spaces.specs.Bushes.{bushes}
+use Rattle.std.specs.declared.option.Option.the-variants.{Some}
 use Rattle.spaces.proofs.Digits.{dep-le}
 use Rattle.spaces.proofs.Bushes.{get-none, get-many, index-small}
 use Rattle.spaces.proofs.bushy.BushySpace.alternative.Needs as need

@@ -1,0 +1,14 @@
+pub mod Alone
+pub mod Answered
+pub mod Building
+pub mod Format
+pub mod Heads
+pub mod Listings
+pub mod Looping
+pub mod Opening
+pub mod Parts
+pub mod Rules
+pub mod Runs
+pub mod Sliced
+pub mod Steps
+pub mod Worked
