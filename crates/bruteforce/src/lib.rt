@@ -6,6 +6,8 @@ mod agreement;
 #[cfg(test)]
 mod bushy_tests;
 #[cfg(test)]
+mod campaign_tests;
+#[cfg(test)]
 mod edge_tests;
 #[cfg(test)]
 mod enumeration;
@@ -18,4 +20,8 @@ mod memo_files;
 #[cfg(test)]
 mod memo_tests;
 #[cfg(test)]
+mod number_tests;
+#[cfg(test)]
 mod table;
+#[cfg(test)]
+mod text_tests;

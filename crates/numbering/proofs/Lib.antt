@@ -3,7 +3,17 @@ pub mod Counts
 pub mod Cuts
 pub mod Fills
 pub mod Listings
+pub mod Misfits
+pub mod Numberings
+pub mod Only
 pub mod Picks
+pub mod Progress
+pub mod Readings
 pub mod Rolls
+pub mod Same
 pub mod Sizes
+pub mod Stacks
+pub mod Standings
+pub mod Tables
 pub mod Trees
+pub mod Writes

@@ -1,15 +1,14 @@
 -- The listing of a number is the list of the one plan that has it.
-use mathlib.Core.Bool.{cond}
 use mathlib.Core.List.{List, [], _++_, _∷_}
-use mathlib.Core.Path.{_≡_, ap, ap₂, refl, subst, sym, _∙_}
-use Prim.Native.Nat.{ℕ, suc, zero, _%_, _*_, _+_, _-_, _/_, _<_, _≤_}
+use mathlib.Core.Path.{_≡_, ap, ap₂, refl, sym, _∙_}
+use Prim.Native.Nat.{ℕ, suc, zero, _%_, _*_, _+_, _-_, _/_, _<_}
 use lib.Dec.{ltb}
 use lib.ListN.{take}
 use native.Mathlib.Omega.{arith}
 use Rattle.std.proofs.shelf.Bits.{div-mul-add, mod-mul-add}
 use Rattle.std.proofs.shelf.Tests.{cond-false, cond-true, le-ltb, lt-ltb}
 use Rattle.std.specs.declared.option.Option.{Option}
-use Rattle.std.specs.declared.option.Option.the-variants.{None, Some}
+use Rattle.std.specs.declared.option.Option.the-variants.{Some}
 use Rattle.std.specs.shelf.Maps.{nth}
 use Rattle.spaces.proofs.Places.{none-some, some-inj}
 use Rattle.spaces.specs.declared.space.Alternative.{Alternative}

@@ -1,7 +1,7 @@
 -- The size of a goal is the greatest length of its plans.
-use mathlib.Core.Path.{_≡_, refl, sym, ap, ap₂, _∙_, subst}
-use mathlib.Core.List.{List, [], _∷_, _++_}
-use Prim.Native.Nat.{ℕ, zero, suc, _+_, _*_, _≤_, _<_, max}
+use mathlib.Core.Path.{_≡_, refl, sym, ap, _∙_}
+use mathlib.Core.List.{List, [], _∷_}
+use Prim.Native.Nat.{ℕ, zero, suc, _+_, _*_, _≤_, _<_}
 use native.Mathlib.Nat.{zero-mul, mul-zero}
 use native.Mathlib.Omega.{arith}
 use native.Mathlib.Decide.{decLe}
@@ -14,8 +14,8 @@ use Rattle.spaces.specs.Spaces.{Meaning, Lawful}
 use Rattle.std.specs.shelf.Maps.{nth}
 use Rattle.numbering.specs.Plans.{left-due, right-due, ways, all-ways, when-live, longest, count, size, Tree, none, node, nodes}
 use Rattle.spaces.proofs.Places.{none-some, some-inj}
-use Rattle.numbering.proofs.Counts.{count-goal, count-none, size-goal, size-none, left-under, right-under}
-use Rattle.numbering.proofs.Trees.{number-below, make}
+use Rattle.numbering.proofs.Counts.{count-goal, size-goal, size-none, left-under, right-under}
+use Rattle.numbering.proofs.Trees.{number-below}
 
 pub ways-left : (u v : ℕ) → 0 < u * v → 0 < u
 ways-left zero v h = absurd (omega (arith, zero-mul v))

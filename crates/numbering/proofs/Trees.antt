@@ -1,17 +1,16 @@
 -- Trees and numbers, one to one.
-use mathlib.Core.Path.{_≡_, refl, sym, ap, ap₂, _∙_, subst}
-use mathlib.Core.List.{List, [], _∷_, _++_, append-assoc}
-use Prim.Native.Nat.{ℕ, zero, suc, _+_, _-_, _*_, _/_, _%_, _≤_, _<_}
+use mathlib.Core.Path.{_≡_, refl, sym, ap, _∙_, subst}
+use mathlib.Core.List.{List, _∷_, _++_, append-assoc}
+use Prim.Native.Nat.{ℕ, zero, suc, _+_, _-_, _*_, _/_, _%_, _<_}
 use native.Mathlib.Nat.{zero-mul, mod-add-div}
 use native.Mathlib.Omega.{arith}
 use lib.ListN.{take}
 use Rattle.std.specs.declared.option.Option.{Option}
 use Rattle.std.specs.declared.option.Option.the-variants.{Some, None}
 use Rattle.std.proofs.shelf.Bits.{div-below, mod-below}
-use Rattle.spaces.specs.declared.space.Alternative.{Alternative}
 use Rattle.spaces.specs.Spaces.{Meaning, Lawful}
 use Rattle.std.specs.shelf.Maps.{nth}
-use Rattle.numbering.specs.Plans.{left-due, right-due, ways, all-ways, count, Tree, none, node, nodes, number}
+use Rattle.numbering.specs.Plans.{left-due, right-due, all-ways, count, Tree, none, node, nodes, number}
 use Rattle.numbering.specs.declared.node.Node.{Node}
 use Rattle.spaces.proofs.Places.{apart-nth, none-some, some-inj}
 use Rattle.numbering.proofs.Counts.{count-goal, count-none, left-under, right-under}

@@ -1,5 +1,10 @@
+pub mod Beginnings
 pub mod Census
+pub mod Dues
 pub mod Listings
+pub mod Numbers
 pub mod Plans
+pub mod Ranks
 pub mod Refusals
+pub mod Standing
 pub mod Tallies

@@ -10,7 +10,7 @@ use Rattle.std.specs.declared.result.Result.{Result}
 use Rattle.std.specs.declared.result.Result.the-variants.{Err, Ok}
 use Rattle.spaces.specs.Spaces.{Meaning}
 use Rattle.numbering.specs.declared.refusal.Refusal.{Refusal}
-use Rattle.numbering.specs.declared.refusal.Refusal.the-variants.{NoGoals, PlansTooLarge, TalliesShort, TooManyPlans}
+use Rattle.numbering.specs.declared.refusal.Refusal.the-variants.{ListEnds, NoGoals, NoLiveAlternative, NoSuchPlan, NodesFollow, OtherGoal, PlanShort, PlansTooLarge, TalliesShort, TextShort, TooManyPlans, WorkShort}
 use Rattle.numbering.specs.declared.tally.Tally.{Tally}
 use Rattle.numbering.specs.Plans.{count, size}
 use Rattle.numbering.specs.Tallies.{filled, most-nodes, over}
@@ -20,6 +20,29 @@ number NoGoals = 20
 number TalliesShort = 21
 number TooManyPlans = 22
 number PlansTooLarge = 23
+number WorkShort = 24
+number PlanShort = 25
+number NoSuchPlan = 40
+number (OtherGoal p) = 41
+number (NoLiveAlternative p) = 42
+number (ListEnds p) = 43
+number (NodesFollow p) = 44
+number TextShort = 48
+
+-- the place in a list that a refusal names
+abbrev pub place : Refusal → Option ℕ
+place NoGoals = None
+place TalliesShort = None
+place TooManyPlans = None
+place PlansTooLarge = None
+place WorkShort = None
+place PlanShort = None
+place NoSuchPlan = None
+place TextShort = None
+place (OtherGoal p) = Some p
+place (NoLiveAlternative p) = Some p
+place (ListEnds p) = Some p
+place (NodesFollow p) = Some p
 
 -- the first refusal of a table whose test applies
 abbrev pub first-of : List (Bool × Refusal) → Option Refusal

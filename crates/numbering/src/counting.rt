@@ -2,12 +2,13 @@
 
 ghost use mathlib.Core.Path.{_≡_};
 ghost use Prim.Native.Nat.{_≤_};
+ghost use lib.Dec.{ltb};
 ghost use lib.ListN.{length};
 ghost use Rattle.std.specs.Vec.{made as whenOk};
 ghost use Rattle.numbering.specs.Census.{Census};
 ghost use Rattle.numbering.specs.Plans.{left-due, right-due};
 ghost use Rattle.numbering.specs.Refusals.{after-tally, answered, count-checks, first-of, largest, plans};
-ghost use Rattle.numbering.specs.Tallies.{cut, filled, joined as joinedExactly, look, of-alternative, of-list, over as isOver, plus, Within};
+ghost use Rattle.numbering.specs.Tallies.{cut, filled, joined as joinedExactly, look, most-nodes, of-alternative, of-list, over as isOver, plus, Within};
 use crate::dues::left_due;
 use crate::dues::right_due;
 use crate::refusal::Refusal;
@@ -22,7 +23,7 @@ pub const MOST_PLANS: u64 = 1_000_000_000_000_000_000;
 pub const MOST_NODES: u16 = 1024;
 
 /// The tally of what is due at a child's place.
-fn due_tally(tallies: &[Tally], due: Option<u16>) -> Tally
+pub(crate) fn due_tally(tallies: &[Tally], due: Option<u16>) -> Tally
     requires { ⌜ Within (length (now tallies)) due ⌝ }
     ensures { λ r. ⌜ r ≡ look (now (tallies .entry)) due ⌝ }
 {
@@ -97,6 +98,13 @@ fn fill<S: Space>(space: &S, goals: u16, tallies: &mut [Tally]) -> bool
     over
 }
 
+/// Whether plans of this size are larger than the bench writes.
+fn too_large(size: u16) -> bool
+    ensures { λ r. ⌜ r ≡ ltb most-nodes size ⌝ }
+{
+    size > MOST_NODES
+}
+
 /// How many complete plans the space holds, and how many nodes the largest has.
 ///
 /// Writes the tallies of all goals into the first entries of `tallies`, unless it is refused for
@@ -117,7 +125,7 @@ pub fn count<S: Space>(space: &S, tallies: &mut [Tally]) -> Result<(u64, u16), R
         return Err(Refusal::TooManyPlans);
     }
     let root = tallies[space.root() as usize];
-    if root.size > MOST_NODES {
+    if too_large(root.size) {
         return Err(Refusal::PlansTooLarge);
     }
     Ok((root.count, root.size))

@@ -1,11 +1,14 @@
 //! Why the program stops with status 1.
 
+use campaigns::refusal::CampaignRefusal;
 use memos::refusal::OpenRefusal;
 use numbering::refusal::Refusal;
 use spaces::refusal::MakeRefusal;
 use std::alloc::AllocError;
+use std::alloc::Refused;
 use std::fmt;
 use std::io;
+use texts::error::TextError;
 
 /// A refusal as it is told: its number, its place where it has one, and the reason in words.
 #[derive(Clone, Copy)]
@@ -21,6 +24,10 @@ pub enum Failure {
     Usage(&'static str),
     /// A call was refused.
     Refused(Told),
+    /// The text of a plan stops making sense at a byte.
+    Text(usize, &'static str),
+    /// A line of a node file, counted from 0, is no node.
+    Line(usize),
     NoMemory,
     /// A file cannot be read.
     Unread(io::Error),
@@ -33,6 +40,18 @@ pub impl fmt::Display for Failure as FailureDisplay {
         match self {
             Failure::Usage(reason) => write!(f, "{reason}"),
             Failure::Refused(told) => told.fmt(f),
+            Failure::Text(byte, reason) => {
+                write!(
+                    f,
+                    "the plan's text stops making sense at byte {byte}: {reason}"
+                )
+            }
+            Failure::Line(line) => {
+                write!(
+                    f,
+                    "line {line} of the nodes, from 0, is not goal, letter, tag, left and right goal"
+                )
+            }
             Failure::NoMemory => write!(f, "out of memory"),
             Failure::Unread(e) => write!(f, "cannot read the file: {e}"),
             Failure::Io(e) => write!(f, "{e}"),
@@ -75,8 +94,28 @@ pub impl From<OpenRefusal> for Failure as FailureFromOpen {
     }
 }
 
+/// An error without a place is want of memory.
+pub impl From<TextError> for Failure as FailureFromText {
+    fn from(e: TextError) -> Failure {
+        match e.place() {
+            Some(byte) => Failure::Text(byte, e.reason()),
+            None => Failure::NoMemory,
+        }
+    }
+}
+
 pub impl From<Refusal> for Failure as FailureFromCall {
     fn from(refusal: Refusal) -> Failure {
+        Failure::Refused(Told {
+            number: refusal.number(),
+            place: refusal.place(),
+            reason: refusal.reason(),
+        })
+    }
+}
+
+pub impl From<CampaignRefusal> for Failure as FailureFromCampaign {
+    fn from(refusal: CampaignRefusal) -> Failure {
         Failure::Refused(Told {
             number: refusal.number(),
             place: None,
@@ -87,6 +126,12 @@ pub impl From<Refusal> for Failure as FailureFromCall {
 
 pub impl From<AllocError> for Failure as FailureFromAlloc {
     fn from(_e: AllocError) -> Failure {
+        Failure::NoMemory
+    }
+}
+
+pub impl<T: Drop> From<Refused<T>> for Failure as FailureFromRefused {
+    fn from(_e: Refused<T>) -> Failure {
         Failure::NoMemory
     }
 }

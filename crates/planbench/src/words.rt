@@ -1,7 +1,9 @@
 //! The words of the command line.
 
 use crate::failure::Failure;
+use crate::failure::FailureFromRefused;
 use spaces::kind::Kind;
+use std::alloc::Global;
 
 /// The words, and how many of them are read.
 #[derive(Drop)]
@@ -14,6 +16,11 @@ impl<'a> Words<'a> {
     /// All words after the program's name.
     pub fn new(words: &'a [String]) -> Words<'a> {
         Words { words, at: 1 }
+    }
+
+    /// How many words are not read.
+    pub fn left(&self) -> usize {
+        self.words.len().saturating_sub(self.at)
     }
 
     /// The next word, if there is one.
@@ -81,4 +88,16 @@ pub fn kind_bits(letters: &str) -> Result<u8, Failure> {
         }
     }
     Ok(bits)
+}
+
+/// Numbers with commas between; none where there is no text.
+pub fn numbers(heap: Global, text: &str) -> Result<Vec<u64>, Failure> {
+    let mut all = Vec::new(heap);
+    if text.is_empty() {
+        return Ok(all);
+    }
+    for word in text.split(',') {
+        all.push(number(word)?)?;
+    }
+    Ok(all)
 }

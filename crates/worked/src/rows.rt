@@ -4,5 +4,5 @@ ghost use Rattle.worked.specs.Rows.{WorkedRows};
 pub fn worked_rows() -> u8
     ensures { λ _. ⌜ WorkedRows ⌝ }
 {
-    5
+    13
 }

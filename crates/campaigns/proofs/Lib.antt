@@ -1,0 +1,14 @@
+pub mod Begun
+pub mod Checks
+pub mod Euclid
+pub mod Going
+pub mod Kept
+pub mod Listed
+pub mod Passed
+pub mod Pasts
+pub mod Pushes
+pub mod Rows
+pub mod Ruled
+pub mod Shared
+pub mod Told
+pub mod Walks

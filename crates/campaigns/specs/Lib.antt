@@ -1,0 +1,10 @@
+pub mod Calls
+pub mod Conduct
+pub mod Counting
+pub mod Divisors
+pub mod Histories
+pub mod Promises
+pub mod Refusals
+pub mod Verdicts
+pub mod Walks
+pub mod Worked

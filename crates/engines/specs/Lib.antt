@@ -1,0 +1,5 @@
+pub mod Covers
+pub mod Faults
+pub mod Members
+pub mod RowCounts
+pub mod Values

@@ -1,0 +1,15 @@
+pub mod Forests
+pub mod Labels
+pub mod Laid
+pub mod Lines
+pub mod Links
+pub mod Marks
+pub mod Numerals
+pub mod Passes
+pub mod Readings
+pub mod ReportAnswers
+pub mod Reports
+pub mod Runs
+pub mod Spells
+pub mod TreeTexts
+pub mod Turns

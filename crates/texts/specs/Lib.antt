@@ -1,0 +1,9 @@
+pub mod Layout
+pub mod Links
+pub mod Listed
+pub mod Parts
+pub mod Passing
+pub mod Places
+pub mod Reads
+pub mod Reports
+pub mod Texts
