@@ -3,15 +3,18 @@
 use crate::memo_files::opened;
 use crate::memo_files::put_header;
 use crate::memo_files::put_record;
+use crate::number_tests::make_buffers;
 use memos::memo::Memo;
 use memos::memo::MemoSpace;
 use numbering::counting::count;
+use numbering::ranking::rank;
 use numbering::refusal::Refusal;
 use numbering::refusal::RefusalDebug;
 use numbering::refusal::RefusalPartialEq;
 use numbering::tally::Tally;
 use numbering::tally::TallyDebug;
 use numbering::tally::TallyPartialEq;
+use numbering::unranking::unrank;
 use spaces::kind::Kind;
 use spaces::order::Order;
 use spaces::order::OrderLayer;
@@ -136,6 +139,29 @@ fn most_nodes(rt: LibcRuntime) -> Result<(), Fail> {
             count: 1,
             size: 1025,
         }),
+    )
+}
+
+/// The largest plan there can be, there and back.
+#[test]
+fn largest_plan(rt: LibcRuntime) -> Result<(), Fail> {
+    let heap = rt.alloc();
+    let space = opened(heap, &chain(heap, 1024)?)?;
+    let mut b = make_buffers(heap, 1024, 1024, 1024)?;
+    check_eq(
+        unrank(&space, 0, &mut b.tallies, &mut b.work, &mut b.plan),
+        Ok(1024),
+    )?;
+    let mut goal: u16 = 1024;
+    for node in b.plan.iter() {
+        goal = goal.saturating_sub(1);
+        check_eq(node.goal, goal)?;
+    }
+    check_eq(rank(&space, &b.plan, &mut b.tallies, &mut b.work), Ok(0))?;
+    check(b.plan.len() == 1024)?;
+    check_eq(
+        rank(&space, &b.plan[0..1023], &mut b.tallies, &mut b.work),
+        Err(Refusal::ListEnds(1023)),
     )
 }
 

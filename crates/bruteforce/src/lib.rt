@@ -10,6 +10,8 @@ mod campaign_tests;
 #[cfg(test)]
 mod edge_tests;
 #[cfg(test)]
+mod endings;
+#[cfg(test)]
 mod enumeration;
 #[cfg(test)]
 mod generated;

@@ -7,7 +7,6 @@ pub mod Listed
 pub mod Passed
 pub mod Pasts
 pub mod Pushes
-pub mod Rows
 pub mod Ruled
 pub mod Shared
 pub mod Told

@@ -7,4 +7,3 @@ pub mod Promises
 pub mod Refusals
 pub mod Verdicts
 pub mod Walks
-pub mod Worked

@@ -70,6 +70,7 @@ fn conduct_in_parts<S: Space, E: Engine>(
     finds: &mut [u64],
 ) -> Ended {
     let part = draws / PARTS + 1;
+    let all = draws.min(room.plans);
     let mut left = draws;
     let mut state = ready;
     for _ in 0..PARTS {
@@ -93,7 +94,7 @@ fn conduct_in_parts<S: Space, E: Engine>(
             let counts = state.counts();
             let _ = eprintln!(
                 rt,
-                "drawn {} of {draws}, differing {}",
+                "drawn {} of {all}, differing {}",
                 counts.drawn, counts.differing
             );
         }

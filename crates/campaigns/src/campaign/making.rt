@@ -6,7 +6,6 @@ ghost use lib.ListN.{length};
 ghost use Rattle.numbering.specs.Refusals.{after-tally};
 ghost use Rattle.campaigns.specs.Calls.{Begun, Made};
 ghost use Rattle.campaigns.specs.Refusals.{bad-step, Step-rule};
-ghost use Rattle.campaigns.specs.Worked.{Worked-walk};
 use crate::campaign::Ready;
 use crate::counts::Counts;
 use crate::divisors::coprime;
@@ -66,7 +65,6 @@ pub fn make<S: Space>(
     ensures answer { λ r. ⌜ Made (meaning (now (space .entry))) (length (now (tallies .entry))) start step baseline r ⌝ }
     ensures tallies { λ _. ⌜ now (tallies .exit) ≡ after-tally (meaning (now (space .entry))) (now (tallies .entry)) ⌝ }
     ensures steps { λ _. ⌜ Step-rule ⌝ }
-    ensures worked { λ _. ⌜ Worked-walk ⌝ }
 {
     match count(space, tallies) {
         Ok((plans, _)) => begin(plans, start, step, baseline),

@@ -15,38 +15,41 @@ use Rattle.worked.specs.Rows.{at-node}
 
 pub returns : need.returns
 unfolding count size deposit digits ones trailingZeros
-returns c = (
-  worked-encodes,
-  (
-    (refl, refl),
+returns c = record {
+  count = refl;
+  stand = (
+    worked-encodes,
     (
       (refl, refl),
       (
         (refl, refl),
         (
-          refl,
+          (refl, refl),
           (
-            (third, refl, refl),
+            refl,
             (
               (third, refl, refl),
               (
-                (fifth, refl, refl),
+                (third, refl, refl),
                 (
-                  (eleventh, refl, refl),
+                  (fifth, refl, refl),
                   (
-                    list-ends 2 1
-                        (record {
-                          incomplete = λ p. let three = three-nodes (p .0) _ _ 0 1 (p .1) refl refl in omega arith;
-                          within = omega arith;
-                          begins = λ some. (at-node 1 Scan 2 0 0 ∷ [], (zeroth, refl));
-                          none = λ e. omega arith;
-                          no-longer = λ q more few b. omega arith;
-                        }) refl refl,
+                    (eleventh, refl, refl),
                     (
-                      refl,
+                      list-ends 2 1
+                          (record {
+                            incomplete = λ p. let three = three-nodes (p .0) _ _ 0 1 (p .1) refl refl in omega arith;
+                            within = omega arith;
+                            begins = λ some. (at-node 1 Scan 2 0 0 ∷ [], (zeroth, refl));
+                            none = λ e. omega arith;
+                            no-longer = λ q more few b. omega arith;
+                          }) refl refl,
                       (
-                        (refl, refl),
-                        (refl, tt),
+                        refl,
+                        (
+                          (refl, refl),
+                          (refl, tt),
+                        ),
                       ),
                     ),
                   ),
@@ -57,5 +60,5 @@ returns c = (
         ),
       ),
     ),
-  ),
-)
+  );
+}

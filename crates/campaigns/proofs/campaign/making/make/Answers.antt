@@ -1,7 +1,6 @@
 use borrow.Author.Needs.{needs}
 use lib.ListN.{length}
 use Rattle.campaigns.proofs.Begun.{begun-made}
-use Rattle.campaigns.proofs.Rows.{worked-walk}
 use Rattle.campaigns.proofs.Shared.{step-rule}
 use Rattle.campaigns.proofs.campaign.making.make.Needs as need
 
@@ -12,8 +11,7 @@ returns-in-Ok g c =
       answer = begun-made (g .S·Space .meaning (a .space .now)) (length (a .tallies .now)) (a .start) (a .step) (a .baseline) (c .in-Ok .plans) (c .in-Ok .field-0-1) (c .begin .result) (c .in-Ok .ensures tt .answer) (c .begin .ensures);
       tallies = c .in-Ok .ensures tt .tallies;
       steps = step-rule;
-      worked = worked-walk;
     }
 
 pub returns-in-Err : need.returns-in-Err
-returns-in-Err g c = record { answer = search needs; tallies = search needs; steps = step-rule; worked = worked-walk }
+returns-in-Err g c = record { answer = search needs; tallies = search needs; steps = step-rule }
