@@ -5,7 +5,7 @@ set -u
 top=$(cd "$(dirname "$0")/.." && pwd)
 scratch=$(mktemp -d)
 trap 'rm -rf "$scratch"' EXIT
-needed='spaces numbering engines campaigns'
+needed='spaces numbering prepared engines campaigns'
 mkdir "$scratch/crates"
 for crate in $needed; do
   cp -r "$top/crates/$crate" "$scratch/crates/$crate"
@@ -18,7 +18,7 @@ for source in "$top"/checks/linear/*.txt; do
   mkdir -p "$scratch/crates/$name/src"
   cp "$source" "$scratch/crates/$name/src/lib.rt"
   (grep -E "^(${needed// /|}):" "$top/crates.txt"; echo "$name: $needed") > "$scratch/crates.txt"
-  output=$(cd "$scratch" && rt dev "$name" 2>&1)
+  output=$(cd "$scratch/crates/$name" && rt check 2>&1)
   rm -rf "$scratch/crates/$name"
   if grep -qF "error[$error]" <<< "$output"; then
     echo "checks: $name is refused with $error, as it must be"

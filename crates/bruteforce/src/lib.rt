@@ -1,5 +1,6 @@
 //! Tests against brute force: spaces as plain tables, all their plans written out one by one, and memo files put together byte by byte.
 //! Nothing here is taken from the crates under test but their types.
+#![tactic(auto)]
 
 #[cfg(test)]
 mod agreement;

@@ -4,7 +4,7 @@ use mathlib.Core.Path.{subst⁻¹}
 use native.Mathlib.Decide.{dec_lt}
 use Rattle.std.proofs.ByRecursion.{All-push, All-weaker}
 use Rattle.std.proofs.lemmas.List.{drop-drop, drop-set-lt, take_at, take_more_set}
-use Rattle.std.specs.List.{AllByRecursion as All, slice_get}
+use Rattle.std.specs.List.{AllByRecursion, slice_get}
 use Rattle.spaces.specs.Spaces.{Apart, Meaning}
 use Rattle.numbering.specs.declared.node.Node.{Node}
 use Rattle.numbering.specs.Listings.{listing}
@@ -47,9 +47,9 @@ pub record Inv (m : Meaning) (start step baseline : ℕ) (first : List ℕ) (s :
   pub found_long : length fs ≡ s.counts.differing
   pub found : take s.counts.differing finds ≡ fs
   pub beyond : drop s.counts.differing finds ≡ drop s.counts.differing first
-  pub early : All (Earlier (plans m) start step (settled s.counts)) fs
+  pub early : AllByRecursion (Earlier (plans m) start step (settled s.counts)) fs
   pub once : Apart fs
-  pub never : All (λ x. x ≡ baseline → ⊥) fs
+  pub never : AllByRecursion (λ x. x ≡ baseline → ⊥) fs
 
 at_made : (m : Meaning) (start step baseline : ℕ) (first : List ℕ) → start < plans m → Coprime step (plans m)
     → Inv m start step baseline first (fresh (plans m) start step baseline) first [] [] no_counts
@@ -106,7 +106,7 @@ module _ {m : Meaning} {start step baseline : ℕ} {first : List ℕ} {s : Numbe
       }
 
   -- the numbers of earlier steps are those of earlier steps later on too
-  later : (j : ℕ) → settled s.counts ≤ j → All (Earlier (plans m) start step j) fs
+  later : (j : ℕ) → settled s.counts ≤ j → AllByRecursion (Earlier (plans m) start step j) fs
   later j le =
       All-weaker (Earlier (plans m) start step (settled s.counts)) (Earlier (plans m) start step j) (λ x p. (p.0, omega (arith, p.1), p.2)) fs i.early
 
@@ -171,7 +171,7 @@ module _ {m : Meaning} {start step baseline : ℕ} {first : List ℕ} {s : Numbe
       → Inv m start step baseline first (counting s (one_ran Differing s.counts)) (set finds s.counts.differing number) ds (fs ++ (x ∷ [])) (one_ran Differing cs)
   at_differing number x room other is here low =
       let d = s.counts.differing in
-      let absent : All (λ y. y ≡ x → ⊥) fs =
+      let absent : AllByRecursion (λ y. y ≡ x → ⊥) fs =
       All-weaker (Earlier (plans m) start step (settled s.counts)) (λ y. y ≡ x → ⊥)
       (λ y p e. let same : p.0 ≡ settled s.counts = i.tours.once p.0 (settled s.counts) (omega (arith, p.1)) low (sym p.2 ∙ e ∙ here) in omega (arith, p.1))
       fs i.early in

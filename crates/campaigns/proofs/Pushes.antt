@@ -1,7 +1,7 @@
 -- A list with one more element at its end.
 use Rattle.std.proofs.Common.{◌≡◌, ℕ, zero, suc, ◌<◌, List, [], ◌∷◌, ◌++◌, length, Some, refl, arith}
 use Rattle.std.proofs.ByRecursion.{All-push}
-use Rattle.std.specs.List.{AllByRecursion as All, slice_get}
+use Rattle.std.specs.List.{AllByRecursion, slice_get}
 use Rattle.spaces.specs.Spaces.{Apart}
 
 pub nth_old : {X : Type 0} (xs : List X) (y : X) (k : ℕ) → k < length xs → slice_get (xs ++ (y ∷ [])) k ≡ slice_get xs k
@@ -13,6 +13,6 @@ pub nth_new : {X : Type 0} (xs : List X) (y : X) → slice_get (xs ++ (y ∷ [])
 nth_new [] y = refl
 nth_new (x ∷ xs) y = nth_new xs y
 
-pub apart_push : {X : Type 0} (xs : List X) (x : X) → Apart xs → All (λ y. y ≡ x → ⊥) xs → Apart (xs ++ (x ∷ []))
+pub apart_push : {X : Type 0} (xs : List X) (x : X) → Apart xs → AllByRecursion (λ y. y ≡ x → ⊥) xs → Apart (xs ++ (x ∷ []))
 apart_push [] x a h = (tt, tt)
 apart_push (y ∷ xs) x a h = (All-push (λ z. y ≡ z → ⊥) xs x a.0 h.0, apart_push xs x a.1 h.1)

@@ -1,7 +1,7 @@
 -- What holds in every history.
 use Rattle.std.specs.Prelude.{◌≡◌, ℕ, ◌+◌, ◌<◌, ◌≤◌, true, false, ◌⊎◌, List, ◌∷◌, length, take, drop, is_err, Some, Ok, Err, Result, ◌≢◌}
 use Rattle.std.proofs.Common.{inl, inr}
-use Rattle.std.specs.List.{AllByRecursion as All, slice_get}
+use Rattle.std.specs.List.{AllByRecursion, slice_get}
 use Rattle.spaces.specs.Spaces.{Apart, Lawful, Meaning}
 use Rattle.numbering.specs.declared.node.Node.{Node}
 use Rattle.numbering.specs.Numbers as numbers
@@ -95,7 +95,7 @@ pub record Promise (m : Meaning) (verdict : Verdict) (Differ : ℕ → ℕ → T
   pub beyond : drop (counted_in log).differing finds ≡ drop (counted_in log).differing first
   -- each once, and never the baseline's
   pub found_once : Apart (differing_in log)
-  pub never_baseline : All (λ x. x ≢ baseline) (differing_in log)
+  pub never_baseline : AllByRecursion (λ x. x ≢ baseline) (differing_in log)
   -- the counts are those of the log, and each plan drawn is settled once, but for the one that waits
   pub counts : told_counts s ≡ counted_in log
   pub balance : (told_counts s).drawn ≡ settled (told_counts s) + waiting s

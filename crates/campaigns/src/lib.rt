@@ -1,4 +1,5 @@
 //! Campaigns: plans drawn by a step through the numbers, each run beside a baseline.
+#![tactic(auto)]
 
 pub mod campaign;
 pub mod conduct;

@@ -2,7 +2,7 @@
 
 ghost use Rattle.std.specs.Prelude.{◌≡◌, ◌==◌};
 ghost use Rattle.engines.specs.Covers.{cover_rule, joined as joined_sides, scanned};
-ghost use Rattle.std.proofs.Common.{rules};
+ghost use Rattle.std.proofs.Common.{eq-eqb, refl};
 
 use crate::engine::Engine;
 use crate::fault::{CHILD_UNSORTED, CHILDREN_MISFIT, NO_SUCH_RELATION, SIDES_OVERLAP};
@@ -57,7 +57,7 @@ impl Engine for Cover {
 
     ghost alike = { λ _ a b. (a.relations == b.relations) };
 
-    ghost reflexive = { Prim.search rules };
+    ghost reflexive = { λ _ a. eq-eqb a.relations a.relations refl };
 
     fn node(&self, kind: Kind, tag: u16, children: &[Covered]) -> Result<Covered, u8> {
         if children.len() != kind.arity() as usize {

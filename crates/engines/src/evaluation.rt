@@ -29,7 +29,7 @@ fn node_result<E: Engine>(
     values: &[E::Output],
 ) -> Result<E::Output, u8>
     requires { top ≤ length values.now }
-    ensures answer { result ≡ at_top (rule engine.now) node.alternative (drop top values.now) }
+    ensures answer { result ≡ at_top (E.rule engine.now) node.alternative (drop top values.now) }
     ensures fits { OnOk result (top + arity_of node.alternative.kind ≤ length values.now) }
 {
     let alternative = node.alternative;
@@ -50,7 +50,7 @@ fn work_node<E: Engine>(
 ) -> Result<usize, u8>
     requires some { 0 < top }
     requires within { top ≤ length values.old }
-    ensures stacked { Stacked (after (rule engine.now) node.alternative (Ok (drop top values.old))) values.new result }
+    ensures stacked { Stacked (after (E.rule engine.now) node.alternative (Ok (drop top values.old))) values.new result }
     ensures room { IfOk result (λ t. (top ≤ t + 1) × (t ≤ length values.new)) }
 {
     match node_result(engine, node, top, values) {
@@ -66,7 +66,7 @@ fn work_node<E: Engine>(
 /// Works out all nodes, from the last to the first, and answers where the stack then begins.
 fn work_out<E: Engine>(engine: &E, nodes: &[Node], values: &mut [E::Output]) -> Result<usize, u8>
     requires { length nodes.now ≤ length values.old }
-    ensures stacked { Stacked (worked (rule engine.now) nodes.now (Ok [])) values.new result }
+    ensures stacked { Stacked (worked (E.rule engine.now) nodes.now (Ok [])) values.new result }
     ensures within { IfOk result (λ t. t ≤ length values.new) }
 {
     let mut top = values.len();
@@ -90,8 +90,8 @@ pub fn evaluate<E: Engine>(
     values: &mut [E::Output],
 ) -> Result<E::Output, u8>
     requires { length nodes.now ≤ length values.old }
-    ensures listed { result ≡ value_of_list (rule engine.now) nodes.now }
-    ensures planned { Valued (rule engine.now) nodes.now result }
+    ensures listed { result ≡ value_of_list (E.rule engine.now) nodes.now }
+    ensures planned { Valued (E.rule engine.now) nodes.now result }
 {
     if nodes.len() == 0 {
         return Err(CHILDREN_MISFIT);

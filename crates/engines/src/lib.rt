@@ -1,4 +1,5 @@
 //! What an engine is, two engines, and what a plan comes to under any of them.
+#![tactic(auto)]
 
 pub mod cover;
 pub mod engine;

@@ -2,7 +2,7 @@
 
 ghost use Rattle.std.specs.Prelude.{◌≡◌, ◌==◌};
 ghost use Rattle.engines.specs.RowCounts.{counted as counted_rows, row_rule, scanned};
-ghost use Rattle.std.proofs.Common.{rules};
+ghost use Rattle.std.proofs.Common.{eq-eqb, refl};
 
 use crate::engine::Engine;
 use crate::fault::{CHILDREN_MISFIT, NO_SUCH_RELATION, TOO_MANY_ROWS};
@@ -54,7 +54,7 @@ impl Engine for Rows {
 
     ghost alike = { λ _ a b. (a == b) };
 
-    ghost reflexive = { Prim.search rules };
+    ghost reflexive = { λ _ a. eq-eqb a a refl };
 
     fn node(&self, kind: Kind, tag: u16, children: &[u64]) -> Result<u64, u8> {
         if children.len() != kind.arity() as usize {

@@ -2,6 +2,7 @@
 //!
 //! Each does its work several times and gives a sum over the answers, by which the benchmark sees that the plain program did
 //! the same; 0 where the space or its buffers are not to be had. What the calls answer is proved in the crates below.
+#![tactic(auto)]
 
 mod bench;
 pub mod campaigns_timed;

@@ -1,6 +1,6 @@
 -- One record: what is read is what is written.
 use Rattle.std.proofs.Common.{◌≡◌, ℕ, ◌+◌, ◌<◌, ◌≤◌, Bool, true, false, ◌||◌, ltb, leb, List, ◌++◌, length, get_or, drop, is_some, Some, None, Ok, Err, unwrap_or, sym, ap, ◌∙◌, subst, arith, lit<}
-use Rattle.std.specs.List.{AllByRecursion as All}
+use Rattle.std.specs.List.{AllByRecursion}
 use Rattle.std.proofs.lemmas.Bool.{or_parts, or_from, ltb-false, leb-true, leb-false, le-ltb, lt-leb, le-leb}
 use Rattle.spaces.specs.Kinds.{arity}
 use Rattle.memos.specs.declared.refusal.OpenRefusal.{OpenRefusal}
@@ -17,9 +17,9 @@ pub record Step (file : List ℕ) (goals : ℕ) (sofar : List Record) (low at : 
   pub bytes_are : drop at file ≡ record_bytes (fields_of low r) ++ drop next file
   pub rises : low ≤ r.goal + 1
   pub fits : Fitting goals r
-  pub new : All (λ x. x ≡ r.alternative → ⊥) (listing sofar r.goal)
+  pub new : AllByRecursion (λ x. x ≡ r.alternative → ⊥) (listing sofar r.goal)
 
-word_small : (file : List ℕ) (i : ℕ) (b : Bool) → All (λ b. b < 256) file → unwrap_or (provided b (word_at file i)) 0 < 65536
+word_small : (file : List ℕ) (i : ℕ) (b : Bool) → AllByRecursion (λ b. b < 256) file → unwrap_or (provided b (word_at file i)) 0 < 65536
 word_small file i true all = omega (arith, byte_at file i all, byte_at file (i + 1) all)
 word_small file i false all = lit< tt
 
@@ -67,8 +67,8 @@ pub record Alone (file : List ℕ) (goals low at : ℕ) (r : Record) (next : ℕ
   pub ahead : at < next
   pub inside : next ≤ length file
   pub fits : r.alternative.tag < 65536 → Fitting goals r
-  pub bytes_are : All (λ b. b < 256) file → drop at file ≡ record_bytes (fields_of low r) ++ drop next file
-  pub tag_small : All (λ b. b < 256) file → r.alternative.tag < 65536
+  pub bytes_are : AllByRecursion (λ b. b < 256) file → drop at file ≡ record_bytes (fields_of low r) ++ drop next file
+  pub tag_small : AllByRecursion (λ b. b < 256) file → r.alternative.tag < 65536
 
 pub alone_sound : (file : List ℕ) (goals low at : ℕ) (p : Record × ℕ) → at < length file → low ≤ goals → read_alone file goals low at ≡ Ok p → Alone file goals low at p.0 p.1
 alone_sound file goals low at p h w e =
@@ -93,7 +93,7 @@ alone_sound file goals low at p h w e =
       tag_small = word_small file _ (bit_at m 4);
     })
 
-pub record_sound : (file : List ℕ) (goals : ℕ) (sofar : List Record) (low at : ℕ) (p : Record × ℕ) → All (λ b. b < 256) file → at < length file → low ≤ goals → read_record file goals sofar low at ≡ Ok p → Step file goals sofar low at p.0 p.1
+pub record_sound : (file : List ℕ) (goals : ℕ) (sofar : List Record) (low at : ℕ) (p : Record × ℕ) → AllByRecursion (λ b. b < 256) file → at < length file → low ≤ goals → read_record file goals sofar low at ≡ Ok p → Step file goals sofar low at p.0 p.1
 record_sound file goals sofar low at p all h w e =
     let x = followed_ok (read_alone file goals low at) (λ q. passed (first (again_rules sofar at q.0)) (Ok q)) p e in
     let y = passed_ok (first (again_rules sofar at x.0.0)) (Ok x.0) p x.2 in
@@ -122,7 +122,7 @@ fields_complete goals low at r fit w =
     ap (λ (x : Record). bad_child x.goal f.left || bad_child x.goal f.right) is ∙ or_from _ _ pl.0 pr.0 in
     (all_first (field_rules goals low at f) (pg.0, (pk.0, (c2, (pt.0, (c4, tt))))), is)
 
-pub record_complete : (file : List ℕ) (goals : ℕ) (sofar : List Record) (low at : ℕ) (r : Record) (rest : List ℕ) → Fitting goals r → low ≤ r.goal + 1 → All (λ x. x ≡ r.alternative → ⊥) (listing sofar r.goal) → drop at file ≡ record_bytes (fields_of low r) ++ rest → (read_record file goals sofar low at ≡ Ok (r, end_from (bit_map (fields_of low r)) at)) × (drop (end_from (bit_map (fields_of low r)) at) file ≡ rest) × (end_from (bit_map (fields_of low r)) at ≤ length file)
+pub record_complete : (file : List ℕ) (goals : ℕ) (sofar : List Record) (low at : ℕ) (r : Record) (rest : List ℕ) → Fitting goals r → low ≤ r.goal + 1 → AllByRecursion (λ x. x ≡ r.alternative → ⊥) (listing sofar r.goal) → drop at file ≡ record_bytes (fields_of low r) ++ rest → (read_record file goals sofar low at ≡ Ok (r, end_from (bit_map (fields_of low r)) at)) × (drop (end_from (bit_map (fields_of low r)) at) file ≡ rest) × (end_from (bit_map (fields_of low r)) at ≤ length file)
 record_complete file goals sofar low at r rest fit w new e =
     let f = fields_of low r in
     let b = fields_back file f at rest e in

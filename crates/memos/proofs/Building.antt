@@ -1,6 +1,6 @@
 -- The steps by which the slices of a memo grow.
 use Rattle.std.proofs.Common.{◌≡◌, ℕ, zero, suc, ◌+◌, ◌-◌, ◌<◌, ◌≤◌, List, [], ◌∷◌, ◌++◌, length, get_or, take, drop, sym, refl, ap, ◌∙◌, subst, inl, inr, append-nil, arith, length-drop}
-use Rattle.std.specs.List.{AllByRecursion as All}
+use Rattle.std.specs.List.{AllByRecursion}
 use Rattle.std.proofs.lemmas.List.{get_or_past, get_or_default, drop-append-le, take-append-le, take_rest, length_push, take_all}
 use Rattle.std.proofs.lemmas.Bool.{cases_lt, cases_eq, ne_eqb}
 use Rattle.spaces.specs.declared.space.Alternative.{Alternative}
@@ -103,12 +103,12 @@ module _ (sofar : List Record) (items : List Alternative) (starts : List ℕ) (r
       ]
 
 -- what has been read fits, goal by goal
-pub listing_fit : (goals : ℕ) (rs : List Record) → All (Fitting goals) rs → (g : ℕ) → All (Sound g) (listing rs g)
+pub listing_fit : (goals : ℕ) (rs : List Record) → AllByRecursion (Fitting goals) rs → (g : ℕ) → AllByRecursion (Sound g) (listing rs g)
 listing_fit goals [] h g = tt
 listing_fit goals (r ∷ rs) h g =
     elim (cases_eq r.goal g) [
-      | inl e ↦ subst (λ k. All (Sound k) (listing (r ∷ rs) k)) e (subst (All (Sound r.goal)) (sym (listing_own r rs)) (h.0.sound, listing_fit goals rs h.1 r.goal))
-      | inr ne ↦ subst (All (Sound g)) (sym (listing_other r rs g (ne_eqb r.goal g ne))) (listing_fit goals rs h.1 g)
+      | inl e ↦ subst (λ k. AllByRecursion (Sound k) (listing (r ∷ rs) k)) e (subst (AllByRecursion (Sound r.goal)) (sym (listing_own r rs)) (h.0.sound, listing_fit goals rs h.1 r.goal))
+      | inr ne ↦ subst (AllByRecursion (Sound g)) (sym (listing_other r rs g (ne_eqb r.goal g ne))) (listing_fit goals rs h.1 g)
     ]
 
 -- one more start, at the end of what stands

@@ -1,6 +1,6 @@
 -- The format: a file is one memo, or it is refused for one reason.
 use Rattle.std.proofs.Common.{◌≡◌, ℕ, ◌+◌, ◌-◌, ◌<◌, ◌≤◌, ◌⊎◌, List, [], ◌++◌, length, take, drop, Some, None, Ok, Err, Option, Result, sym, refl, ap, ◌∙◌, subst, inl, inr, append_assoc, append-nil, zero-le, arith, length-append, length-drop}
-use Rattle.std.specs.List.{AllByRecursion as All}
+use Rattle.std.specs.List.{AllByRecursion}
 use Rattle.std.proofs.lemmas.Bool.{ltb-false}
 use Rattle.std.proofs.lemmas.List.{drop_all, take_all, take-append-le}
 use Rattle.memos.specs.declared.refusal.OpenRefusal.{OpenRefusal}
@@ -76,7 +76,7 @@ module _ (file : List ℕ) (headed : first (header_rules file) ≡ None) (h : He
             })))
       ]
 
-right : (file : List ℕ) → All (λ b. b < 256) file → Right file (reading file)
+right : (file : List ℕ) → AllByRecursion (λ b. b < 256) file → Right file (reading file)
 right file all =
     let rs = read_records 4096 file (word_at file 1) [] 0 (header_end file) in
     let P : Option OpenRefusal → Type 0 = λ o. first (header_rules file) ≡ o → Right file (passed o (memo_of (word_at file 1) (root_at file) rs)) in
@@ -86,10 +86,10 @@ right file all =
     ] in
     q refl
 
-pub reading_encodes : (file : List ℕ) (m : Contents) → All (λ b. b < 256) file → reading file ≡ Ok m → Encodes file m
+pub reading_encodes : (file : List ℕ) (m : Contents) → AllByRecursion (λ b. b < 256) file → reading file ≡ Ok m → Encodes file m
 reading_encodes file m all e = subst (Right file) e (right file all)
 
-pub reading_refused : (file : List ℕ) (e : OpenRefusal) → All (λ b. b < 256) file → reading file ≡ Err e → Refused file e
+pub reading_refused : (file : List ℕ) (e : OpenRefusal) → AllByRecursion (λ b. b < 256) file → reading file ≡ Err e → Refused file e
 reading_refused file e all h = subst (Right file) h (right file all)
 
 -- ---------- what stands in the file is what the reading answers
@@ -143,7 +143,7 @@ refused_cut file e (inr r) =
     let is = first_holds (λ x. place_of x ≡ Some at) (record_rules m.goals m.records file at) e (refl, (refl, (refl, (refl, (refl, (refl, (refl, (refl, (refl, tt))))))))) r.breaks in
     inr (at, m, is, omega (arith, long, r.more), ap (take at) r.bytes_are ∙ take-append-le at (encode m) r.rest (omega arith) ∙ take_all at (encode m) (omega arith), r.well)
 
-pub settled : (file : List ℕ) → All (λ b. b < 256) file → Settled file
+pub settled : (file : List ℕ) → AllByRecursion (λ b. b < 256) file → Settled file
 settled file all = record {
   answered = elim (reading file) as (λ a. reading file ≡ a → ((m : Contents) × Encodes file m) ⊎ ((e : OpenRefusal) × Refused file e)) [
     | Ok m ↦ (λ is. inl (m, reading_encodes file m all is))

@@ -1,6 +1,6 @@
 -- The header: what is read is what is written.
 use Rattle.std.proofs.Common.{◌≡◌, ℕ, suc, ◌+◌, ◌-◌, ◌*◌, ◌/◌, ◌%◌, ◌<◌, ◌≤◌, Bool, true, false, cond, ◌&&◌, ◌||◌, eqb, ltb, leb, List, ◌∷◌, ◌++◌, length, get_or, drop, is_some, Some, None, Option, unwrap_or, sym, refl, ap, ◌∙◌, inl, inr, arith, length-append}
-use Rattle.std.specs.List.{AllByRecursion as All}
+use Rattle.std.specs.List.{AllByRecursion}
 use Rattle.std.proofs.lemmas.Bool.{both_ways, or_parts, or_from, ltb-false, leb-false, eqb-false, eqb-true, lt-ltb, le-ltb, lt-leb, ne_eqb, eq-eqb, and_cases, and_right}
 use Rattle.std.proofs.lemmas.List.{drop_more}
 use Rattle.memos.specs.Memos.{digit, word, unless, provided, header_bytes}
@@ -36,7 +36,7 @@ pub record Head (file : List ℕ) (goals root : ℕ) : Type 0 where
   pub short : length file ≤ 60000
   pub bytes_are : file ≡ header_bytes goals root ++ drop (header_end file) file
 
-pub header_sound : (file : List ℕ) → All (λ b. b < 256) file → first (header_rules file) ≡ None → Head file (word_at file 1) (root_at file)
+pub header_sound : (file : List ℕ) → AllByRecursion (λ b. b < 256) file → first (header_rules file) ≡ None → Head file (word_at file 1) (root_at file)
 header_sound file all e =
     let h = first_all (header_rules file) e in
     let m = get_or file 0 0 in

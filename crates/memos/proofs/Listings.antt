@@ -1,6 +1,6 @@
 -- The alternatives of a goal, with one more record.
 use Rattle.std.proofs.Common.{◌≡◌, ℕ, Bool, true, false, cond, eqb, List, [], ◌∷◌, ◌++◌, map, filter, sym, refl, ap, ◌∙◌, subst, append-nil}
-use Rattle.std.specs.List.{AllByRecursion as All}
+use Rattle.std.specs.List.{AllByRecursion}
 use Rattle.std.proofs.lemmas.Bool.{eqb-true, eq-eqb}
 use Rattle.std.proofs.lemmas.List.{map-append}
 use Rattle.std.proofs.lemmas.List.Elements.{filter-append}
@@ -20,11 +20,11 @@ listing_own r rs =
 pub listing_other : (r : Record) (rs : List Record) (g : ℕ) → eqb r.goal g ≡ false → listing (r ∷ rs) g ≡ listing rs g
 listing_other r rs g e = ap (λ t. map (λ r. r.alternative) (cond t (r ∷ filter (λ x. eqb x.goal g) rs) (filter (λ x. eqb x.goal g) rs))) e
 
-pub apart_push : {X : Type 0} (xs : List X) (y : X) → Apart xs → All (λ x. x ≡ y → ⊥) xs → Apart (xs ++ (y ∷ []))
+pub apart_push : {X : Type 0} (xs : List X) (y : X) → Apart xs → AllByRecursion (λ x. x ≡ y → ⊥) xs → Apart (xs ++ (y ∷ []))
 apart_push [] y h n = (tt, tt)
 apart_push (x ∷ xs) y h n = (All-push (λ z. x ≡ z → ⊥) xs y h.0 n.0, apart_push xs y h.1 n.1)
 
-pub apart_more : (sofar : List Record) (r : Record) → ((g : ℕ) → Apart (listing sofar g)) → All (λ x. x ≡ r.alternative → ⊥) (listing sofar r.goal) → (g : ℕ) → Apart (listing (sofar ++ (r ∷ [])) g)
+pub apart_more : (sofar : List Record) (r : Record) → ((g : ℕ) → Apart (listing sofar g)) → AllByRecursion (λ x. x ≡ r.alternative → ⊥) (listing sofar r.goal) → (g : ℕ) → Apart (listing (sofar ++ (r ∷ [])) g)
 apart_more sofar r h new g =
     let P : Bool → Type 0 = λ t. eqb r.goal g ≡ t → Apart (listing (sofar ++ (r ∷ [])) g) in
     let q : P (eqb r.goal g) = elim (eqb r.goal g) as P [
@@ -34,14 +34,14 @@ apart_more sofar r h new g =
     ] in
     q refl
 
-apart_middle : {X : Type 0} (xs : List X) (y : X) (ys : List X) → Apart (xs ++ (y ∷ ys)) → All (λ x. x ≡ y → ⊥) xs
+apart_middle : {X : Type 0} (xs : List X) (y : X) (ys : List X) → Apart (xs ++ (y ∷ ys)) → AllByRecursion (λ x. x ≡ y → ⊥) xs
 apart_middle [] y ys h = tt
 apart_middle {X} (x ∷ xs) y ys h = (all_here xs h.0, apart_middle xs y ys h.1)
   where
-    all_here : (zs : List X) → All (λ z. x ≡ z → ⊥) (zs ++ (y ∷ ys)) → x ≡ y → ⊥
+    all_here : (zs : List X) → AllByRecursion (λ z. x ≡ z → ⊥) (zs ++ (y ∷ ys)) → x ≡ y → ⊥
     all_here [] k = k.0
     all_here (z ∷ zs) k = all_here zs k.1
 
-pub new_from_apart : (sofar : List Record) (r : Record) (rs : List Record) → Apart (listing (sofar ++ (r ∷ rs)) r.goal) → All (λ x. x ≡ r.alternative → ⊥) (listing sofar r.goal)
+pub new_from_apart : (sofar : List Record) (r : Record) (rs : List Record) → Apart (listing (sofar ++ (r ∷ rs)) r.goal) → AllByRecursion (λ x. x ≡ r.alternative → ⊥) (listing sofar r.goal)
 new_from_apart sofar r rs h =
     apart_middle (listing sofar r.goal) r.alternative (listing rs r.goal) (subst Apart (listing_append sofar (r ∷ rs) r.goal ∙ ap (λ ys. listing sofar r.goal ++ ys) (listing_own r rs)) h)

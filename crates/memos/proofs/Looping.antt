@@ -44,8 +44,8 @@ loop_start file goals from items starts w e s =
       begun = inl (record { nothing = refl; lowest = n; here = refl });
     }
 
-pub loop-end : (file : List ℕ) (goals from : ℕ) (items : List Alternative) (starts : List ℕ) (at : ℕ) → Loop file goals from items starts at → length file ≤ at → ReadAll file goals from items starts
-loop-end file goals from items starts at l h = record {
+pub loop_end : (file : List ℕ) (goals from : ℕ) (items : List Alternative) (starts : List ℕ) (at : ℕ) → Loop file goals from items starts at → length file ≤ at → ReadAll file goals from items starts
+loop_end file goals from items starts at l h = record {
   records = l.sofar;
   read = l.target ∙ records_done file goals l.sofar (length starts) at (4096 - length items) h;
   built = l.built;

@@ -1,6 +1,6 @@
 -- From the reading of a file to a memo in memory.
 use Rattle.std.proofs.Common.{◌≡◌, ℕ, ◌<◌, List, [], Some, None, Ok, Err, Result, sym, ap, ◌∙◌, subst, inl, inr, arith, MatchResult}
-use Rattle.std.specs.List.{AllByRecursion as All}
+use Rattle.std.specs.List.{AllByRecursion}
 use Rattle.spaces.specs.declared.space.Alternative.{Alternative}
 use Rattle.spaces.specs.Spaces.{Sound, Apart}
 use Rattle.memos.specs.declared.fields.Header.{Header}
@@ -34,7 +34,7 @@ module _ (file : List ℕ) (h : Header) (headed : read_header file ≡ Ok h) whe
   records_stop e (inl r) = inl (r.0, record { headed = parts.0; stored = subst (λ (x : Header). FirstFits file x.goals x.end) (sym parts.1) r.1 })
   records_stop e (inr r) = inr (goes_on ∙ ap (memo_of h.goals h.root) r)
 
-  pub loaded : (items : List Alternative) (starts : List ℕ) → All (λ b. b < 256) file → ReadAll file h.goals h.end items starts → Opened file (slice_space h.goals h.root items starts) × Fresh h.goals h.root items starts
+  pub loaded : (items : List Alternative) (starts : List ℕ) → AllByRecursion (λ b. b < 256) file → ReadAll file h.goals h.end items starts → Opened file (slice_space h.goals h.root items starts) × Fresh h.goals h.root items starts
   loaded items starts all d =
       let rs = d.records in
       let m : Contents = record { goals = h.goals; root = h.root; records = rs } in
@@ -46,13 +46,13 @@ module _ (file : List ℕ) (h : Header) (headed : read_header file ≡ Ok h) whe
           indexed = d.built.indexed;
           headed = (omega (arith, wf.few), (λ z. omega (arith, wf.root_within)), (λ z. omega (arith, wf.some)), d.few);
           lawful = record {
-            fit = λ k. subst (All (Sound k)) (sym (d.built.slices k)) (listing_fit h.goals rs wf.fitting k);
+            fit = λ k. subst (AllByRecursion (Sound k)) (sym (d.built.slices k)) (listing_fit h.goals rs wf.fitting k);
             apart = λ k. subst Apart (sym (d.built.slices k)) (wf.apart k);
           };
         },
       )
 
-pub not_opened : (file : List ℕ) (e : OpenRefusal) → All (λ b. b < 256) file → Stops (Storing file) e (reading file) → NotOpened file e
+pub not_opened : (file : List ℕ) (e : OpenRefusal) → AllByRecursion (λ b. b < 256) file → Stops (Storing file) e (reading file) → NotOpened file e
 not_opened file e all (inl h) = inl h
 not_opened file e all (inr h) = inr (reading_refused file e all h)
 
@@ -62,5 +62,5 @@ stops_load {Y} W r y f P e is h =
     let Q : Result Y OpenRefusal → Type 0 = λ x. MatchResult x P W in
     subst Q (sym e) (subst W (sym is) h)
 
-pub stops_open : {Y : Type 0} (file : List ℕ) (r : Result Y OpenRefusal) (y f : OpenRefusal) (P : Y → Type 0) → All (λ b. b < 256) file → r ≡ Err y → y ≡ f → Stops (Storing file) f (reading file) → MatchResult r P (NotOpened file)
+pub stops_open : {Y : Type 0} (file : List ℕ) (r : Result Y OpenRefusal) (y f : OpenRefusal) (P : Y → Type 0) → AllByRecursion (λ b. b < 256) file → r ≡ Err y → y ≡ f → Stops (Storing file) f (reading file) → MatchResult r P (NotOpened file)
 stops_open file r y f P all e is h = stops_load (NotOpened file) r y f P e is (not_opened file f all h)

@@ -1,13 +1,13 @@
 -- The bytes of a record's fields: what is read is what is written.
 use Rattle.std.proofs.Common.{◌≡◌, ℕ, zero, suc, ◌+◌, ◌-◌, ◌*◌, ◌/◌, ◌%◌, ◌<◌, ◌≤◌, Bool, true, false, eqb, List, [], ◌∷◌, ◌++◌, length, get_or, drop, is_some, Some, None, Option, sym, refl, ap, ◌∙◌, append_assoc, arith, lit<, lit≤, length-append, length-drop}
-use Rattle.std.specs.List.{AllByRecursion as All}
+use Rattle.std.specs.List.{AllByRecursion}
 use Rattle.std.proofs.lemmas.List.{drop_more, drop-drop, get_or-drop}
 use Rattle.std.proofs.lemmas.Nat.{shr-shr}
 use Rattle.memos.specs.declared.fields.Fields.{Fields}
 use Rattle.memos.specs.Memos.{digit, word, byte, provided, bit_map, field_bytes, record_bytes}
 use Rattle.memos.specs.Rules.{word_at, bit_at, kind_from, tag_from, left_from, right_from, end_from, fields_at}
 
-pub byte_at : (xs : List ℕ) (i : ℕ) → All (λ b. b < 256) xs → get_or xs i 0 < 256
+pub byte_at : (xs : List ℕ) (i : ℕ) → AllByRecursion (λ b. b < 256) xs → get_or xs i 0 < 256
 byte_at [] i h = lit< tt
 byte_at (x ∷ xs) zero h = h.0
 byte_at (x ∷ xs) (suc i) h = byte_at xs i h.1
@@ -36,7 +36,7 @@ some_provided false n = refl
 
 -- ---------- from the file to the fields
 
-pub word_part : (file : List ℕ) (i : ℕ) → i + 2 ≤ length file → All (λ b. b < 256) file → drop i file ≡ word (Some (word_at file i)) ++ drop (i + 2) file
+pub word_part : (file : List ℕ) (i : ℕ) → i + 2 ≤ length file → AllByRecursion (λ b. b < 256) file → drop i file ≡ word (Some (word_at file i)) ++ drop (i + 2) file
 word_part file i h all =
     let p : drop i file ≡ get_or file i 0 ∷ drop (i + 1) file = drop_more file i 0 (omega arith) in
     let q : drop (i + 1) file ≡ get_or file (i + 1) 0 ∷ drop (i + 1 + 1) file = drop_more file (i + 1) 0 (omega arith) in
@@ -45,7 +45,7 @@ word_part file i h all =
     let t : get_or file (i + 1) 0 ≡ word_at file i / 256 = omega (arith, byte_at file i all, byte_at file (i + 1) all) in
     cc
 
-pub word_field : (b : Bool) (n : ℕ) (file : List ℕ) (i : ℕ) → digit b ≡ n → i + 2 * n ≤ length file → All (λ b. b < 256) file → drop i file ≡ word (provided b (word_at file i)) ++ drop (i + 2 * n) file
+pub word_field : (b : Bool) (n : ℕ) (file : List ℕ) (i : ℕ) → digit b ≡ n → i + 2 * n ≤ length file → AllByRecursion (λ b. b < 256) file → drop i file ≡ word (provided b (word_at file i)) ++ drop (i + 2 * n) file
 word_field true n file i e h all =
     let k : i + 2 ≡ i + 2 * n = omega arith in
     word_part file i (omega arith) all ∙ ap (λ m. word (Some (word_at file i)) ++ drop m file) k
@@ -83,7 +83,7 @@ map_read file map at h =
     let one : map / 1 % 2 ≡ map % 2 = omega arith in
     omega (arith, s, a0, a1, a2, a3, a4, digit_bit map 1, digit_bit map 2, digit_bit map 4, digit_bit map 8, digit_bit map 16)
 
-pub fields_read : (file : List ℕ) (at : ℕ) → at < length file → get_or file at 0 < 32 → end_from (get_or file at 0) at ≤ length file → All (λ b. b < 256) file → drop at file ≡ record_bytes (fields_at file (get_or file at 0) at) ++ drop (end_from (get_or file at 0) at) file
+pub fields_read : (file : List ℕ) (at : ℕ) → at < length file → get_or file at 0 < 32 → end_from (get_or file at 0) at ≤ length file → AllByRecursion (λ b. b < 256) file → drop at file ≡ record_bytes (fields_at file (get_or file at 0) at) ++ drop (end_from (get_or file at 0) at) file
 fields_read file at h m e all =
     let map = get_or file at 0 in
     chained map _ (drop at file) (drop (at + 1) file) (drop (kind_from map at) file) (drop (tag_from map at) file) (drop (left_from map at) file) (drop (right_from map at) file) (drop (end_from map at) file) _ _ _ _ _

@@ -1,6 +1,6 @@
 -- The rules on a record's fields, and what they say of the record.
 use Rattle.std.proofs.Common.{◌≡◌, ℕ, zero, suc, ◌+◌, ◌-◌, ◌<◌, ◌≤◌, Bool, true, false, cond, not, ◌||◌, eqb, ltb, leb, List, [], ◌∷◌, ◌++◌, length, get_or, drop, is_some, Some, None, Option, unwrap_or, sym, refl, ap, ◌∙◌, subst, inl, inr, arith, lit≤}
-use Rattle.std.specs.List.{AllByRecursion as All}
+use Rattle.std.specs.List.{AllByRecursion}
 use Rattle.std.proofs.lemmas.List.{drop_more, drop_all}
 use Rattle.std.proofs.lemmas.Bool.{or_left, cases_lt, both_ways, or_parts, or_from, ltb-false, leb-false, eqb-false, eqb-true, le-ltb, lt-leb, ne_eqb, eq-eqb, not-false, true≢false, and_parts, and_from}
 use Rattle.spaces.specs.declared.kind.Kind.{Kind}
@@ -20,11 +20,11 @@ pub first_pass : (b : Bool) (f : OpenRefusal) (rs : List (Bool × OpenRefusal)) 
 first_pass b f rs h e = ap (λ t. cond t (Some f) (first rs)) h ∙ e
 
 -- no rule of a table is broken exactly where each test is false
-pub first_all : (rs : List (Bool × OpenRefusal)) → first rs ≡ None → All (λ r. r.0 ≡ false) rs
+pub first_all : (rs : List (Bool × OpenRefusal)) → first rs ≡ None → AllByRecursion (λ r. r.0 ≡ false) rs
 first_all [] e = tt
 first_all (r ∷ rs) e = let p = first_none r.0 r.1 rs e in (p.0, first_all rs p.1)
 
-pub all_first : (rs : List (Bool × OpenRefusal)) → All (λ r. r.0 ≡ false) rs → first rs ≡ None
+pub all_first : (rs : List (Bool × OpenRefusal)) → AllByRecursion (λ r. r.0 ≡ false) rs → first rs ≡ None
 all_first [] h = refl
 all_first (r ∷ rs) h = first_pass r.0 r.1 rs h.0 (all_first rs h.1)
 
@@ -38,7 +38,7 @@ first_append (r ∷ rs) ys =
     ]
 
 -- what holds of every refusal of a table holds of the first
-pub first_holds : (P : OpenRefusal → Type 0) (rs : List (Bool × OpenRefusal)) (e : OpenRefusal) → All (λ r. P r.1) rs → first rs ≡ Some e → P e
+pub first_holds : (P : OpenRefusal → Type 0) (rs : List (Bool × OpenRefusal)) (e : OpenRefusal) → AllByRecursion (λ r. P r.1) rs → first rs ≡ Some e → P e
 first_holds P [] e h is = absurd (none_some e is)
 first_holds P (r ∷ rs) e h is =
     let Q : Bool → Type 0 = λ b. cond b (Some r.1) (first rs) ≡ Some e → P e in
@@ -185,13 +185,13 @@ pub same_refl : (a : Alternative) → same a a ≡ true
 same_refl a =
     and_from _ _ (eq-eqb (code a.kind) (code a.kind) refl) (and_from _ _ (eq-eqb a.tag a.tag refl) (and_from _ _ (eq-eqb a.left a.left refl) (eq-eqb a.right a.right refl)))
 
-pub among_none : (xs : List Alternative) (a : Alternative) → among xs a ≡ false → All (λ x. x ≡ a → ⊥) xs
+pub among_none : (xs : List Alternative) (a : Alternative) → among xs a ≡ false → AllByRecursion (λ x. x ≡ a → ⊥) xs
 among_none [] a h = tt
 among_none (x ∷ xs) a h =
     let p = or_parts (same x a) (among xs a) h in
     ((λ e. both_ways (same x a) p.0 (subst (λ y. same x y ≡ true) e (same_refl x))), among_none xs a p.1)
 
-pub among_not : (xs : List Alternative) (a : Alternative) → All (λ x. x ≡ a → ⊥) xs → among xs a ≡ false
+pub among_not : (xs : List Alternative) (a : Alternative) → AllByRecursion (λ x. x ≡ a → ⊥) xs → among xs a ≡ false
 among_not [] a h = refl
 among_not (x ∷ xs) a h =
     let P : Bool → Type 0 = λ t. same x a ≡ t → same x a ≡ false in

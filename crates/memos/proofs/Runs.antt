@@ -1,6 +1,6 @@
 -- All records of a file: what the reading answers, and that it answers what stands there.
 use Rattle.std.proofs.Common.{◌≡◌, ℕ, zero, suc, ◌+◌, ◌-◌, ◌<◌, ◌≤◌, Bool, true, false, cond, ltb, leb, ◌⊎◌, List, [], ◌∷◌, ◌++◌, length, get_or, drop, Some, Ok, Err, Result, sym, refl, ap, ◌∙◌, subst, inl, inr, append_assoc, append-nil, suc-le-suc, zero-le, arith, length-drop}
-use Rattle.std.specs.List.{AllByRecursion as All}
+use Rattle.std.specs.List.{AllByRecursion}
 use Rattle.std.proofs.lemmas.Bool.{ltb-false, ltb-true, le-leb, lt-leb, leb-true, leb-false}
 use Rattle.spaces.specs.Spaces.{Apart}
 use Rattle.memos.specs.declared.refusal.OpenRefusal.{OpenRefusal}
@@ -62,7 +62,7 @@ pub record Outcome (room : ℕ) (file : List ℕ) (goals : ℕ) (sofar : List Re
   pub bytes_are : drop at file ≡ records_bytes low more ++ drop place file
   pub few : length more ≤ room
   pub rising : Rising low more
-  pub fitting : All (Fitting goals) more
+  pub fitting : AllByRecursion (Fitting goals) more
   pub apart : (g : ℕ) → Apart (listing (sofar ++ more) g)
   pub ends : Ends room file goals (sofar ++ more) (length more) (low_after low more) place answer
 
@@ -86,7 +86,7 @@ one_more room file goals sofar n low at answer e =
       | inr h ↦ inr (h.0, h.1, h.2, elim h.3 [ inl b ↦ inl (suc-le-suc b.0, b.1) | inr b ↦ inr (suc-le-suc b.0, b.1) ])
     ]
 
-pub outcome : (room : ℕ) (file : List ℕ) (goals : ℕ) (sofar : List Record) (low at : ℕ) → All (λ b. b < 256) file → low ≤ goals → ((g : ℕ) → Apart (listing sofar g)) → Outcome room file goals sofar low at (read_records room file goals sofar low at)
+pub outcome : (room : ℕ) (file : List ℕ) (goals : ℕ) (sofar : List Record) (low at : ℕ) → AllByRecursion (λ b. b < 256) file → low ≤ goals → ((g : ℕ) → Apart (listing sofar g)) → Outcome room file goals sofar low at (read_records room file goals sofar low at)
 unfolding read_records
 outcome zero file goals sofar low at bytes w h =
     let P : Bool → Type 0 = λ t. ltb at (length file) ≡ t → Outcome zero file goals sofar low at (cond {A = Result (List Record) OpenRefusal} t (Err (ManyRecords at)) (Ok sofar)) in
@@ -139,7 +139,7 @@ pub record Reached (room : ℕ) (file : List ℕ) (goals : ℕ) (sofar : List Re
 before_end : (file : List ℕ) (at x : ℕ) (xs : List ℕ) → drop at file ≡ x ∷ xs → at < length file
 before_end file at x xs e = let z : length file - at ≡ suc (length xs) = sym (length-drop at file) ∙ ap length e in omega arith
 
-pub reached : (more : List Record) (room : ℕ) (file : List ℕ) (goals : ℕ) (sofar : List Record) (low at : ℕ) (rest : List ℕ) → drop at file ≡ records_bytes low more ++ rest → length more ≤ room → Rising low more → All (Fitting goals) more → ((g : ℕ) → Apart (listing (sofar ++ more) g)) → Reached room file goals sofar low at more rest
+pub reached : (more : List Record) (room : ℕ) (file : List ℕ) (goals : ℕ) (sofar : List Record) (low at : ℕ) (rest : List ℕ) → drop at file ≡ records_bytes low more ++ rest → length more ≤ room → Rising low more → AllByRecursion (Fitting goals) more → ((g : ℕ) → Apart (listing (sofar ++ more) g)) → Reached room file goals sofar low at more rest
 reached [] room file goals sofar low at rest e n ri fs apart =
     let z : room ≡ room - 0 = omega arith in
     record { place = at; same = λ i. read_records (z i) file goals (sym (append-nil sofar) i) low at; rest_is = e }

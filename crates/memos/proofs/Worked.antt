@@ -1,6 +1,6 @@
 -- The worked memo, by computation.
 use Rattle.std.proofs.Common.{◌≡◌, ◌<◌, take, Ok, Err, sym, refl, ap, ◌∙◌, lit<}
-use Rattle.std.specs.List.{AllByRecursion as All}
+use Rattle.std.specs.List.{AllByRecursion}
 use Rattle.spaces.specs.Spaces.{Meaning}
 use Rattle.memos.specs.declared.refusal.OpenRefusal.{OpenRefusal}
 use Rattle.memos.specs.declared.refusal.OpenRefusal.TheVariants.{RecordEnds}
@@ -20,7 +20,7 @@ pub worked_cut : reading (take 36 worked_file) ≡ Err (RecordEnds 31)
 unfolding read_records
 worked_cut = refl
 
-worked_bytes : All (λ b. b < 256) worked_file
+worked_bytes : AllByRecursion (λ b. b < 256) worked_file
 worked_bytes = (lit< tt, (lit< tt, (lit< tt, (lit< tt, (lit< tt, (lit< tt, (lit< tt, (lit< tt, (lit< tt, (lit< tt, (lit< tt, (lit< tt, (lit< tt, (lit< tt, (lit< tt, (lit< tt, (lit< tt, (lit< tt, (lit< tt, (lit< tt, (lit< tt, (lit< tt, (lit< tt, (lit< tt, (lit< tt, (lit< tt, (lit< tt, (lit< tt, (lit< tt, (lit< tt, (lit< tt, (lit< tt, (lit< tt, (lit< tt, (lit< tt, (lit< tt, (lit< tt, tt)))))))))))))))))))))))))))))))))))))
 
 pub worked_encodes : Encodes worked_file worked_memo

@@ -1,6 +1,6 @@
 -- A memo as data, the bytes that it is written in, and the rules that it keeps.
 use Rattle.std.specs.Prelude.{ℕ, ◌+◌, ◌-◌, ◌*◌, ◌/◌, ◌%◌, ◌<◌, ◌≤◌, Bool, true, false, cond, List, [], ◌∷◌, ◌++◌, map, length, is_some, Some, None, filter, Option, ◌==◌, nat_eq, nat_le}
-use Rattle.std.specs.List.{AllByRecursion as All}
+use Rattle.std.specs.List.{AllByRecursion}
 use Rattle.spaces.specs.declared.space.Alternative.{Alternative}
 use Rattle.spaces.specs.Kinds.{arity, code}
 use Rattle.spaces.specs.Spaces.{Apart, Meaning, Sound}
@@ -93,7 +93,7 @@ pub record WellFormed (m : Contents) : Type 0 where
   pub short : length (encode m) ≤ 60000
   pub narrow : length m.records ≤ 4096
   pub rising : Rising 0 m.records
-  pub fitting : All (Fitting m.goals) m.records
+  pub fitting : AllByRecursion (Fitting m.goals) m.records
   pub apart : (g : ℕ) → Apart (listing m.records g)
 
 -- ---------- its meaning

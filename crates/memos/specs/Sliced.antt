@@ -6,7 +6,7 @@ use Rattle.std.proofs.Math.Bridge.{le_prop}
 use std.HLevel.{Π_prop, ¬_prop}
 use Rattle.std.specs.Coded.{coded_ℕ}
 use denote.Struct.Props.{≡_prop}
-use Rattle.std.specs.List.{AllByRecursion as All, slice_get}
+use Rattle.std.specs.List.{AllByRecursion, slice_get}
 use Rattle.std.proofs.lemmas.List.{get_or_past}
 use Rattle.std.proofs.lemmas.Option.{slice_get-get_or, slice_get_past}
 use Rattle.spaces.specs.declared.space.Alternative.{Alternative}
@@ -15,7 +15,7 @@ use Rattle.memos.specs.Slices.{begins, sliced, slice_space, Indexed, Headed, Kep
 
 -- ---------- facts of one proof
 
-all_prop : {X : Type 0} (P : X → Type 0) → ((x : X) → IsProp (P x)) → (xs : List X) → IsProp (All P xs)
+all_prop : {X : Type 0} (P : X → Type 0) → ((x : X) → IsProp (P x)) → (xs : List X) → IsProp (AllByRecursion P xs)
 all_prop P h [] = λ x y. refl
 all_prop P h (x ∷ xs) = λ p q i. (h x p.0 q.0 i, all_prop P h xs p.1 q.1 i)
 
@@ -85,5 +85,5 @@ empty_index goals root items starts e s few below none =
     let no : (k : ℕ) → sliced items starts k ≡ [] = λ k. sliced_past items starts k (omega arith) in (
       ((λ k. omega (arith, b k, b (k + 1))), (λ k. omega (arith, b k)), omega arith),
       (few, below, none, omega arith),
-      record { fit = λ g. subst (All (Sound g)) (sym (no g)) tt; apart = λ g. subst Apart (sym (no g)) tt },
+      record { fit = λ g. subst (AllByRecursion (Sound g)) (sym (no g)) tt; apart = λ g. subst Apart (sym (no g)) tt },
     )

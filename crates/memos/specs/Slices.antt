@@ -1,6 +1,6 @@
 -- The alternatives of all goals in one list, with the places where each goal's begin.
 use Rattle.std.specs.Prelude.{◌≡◌, ℕ, ◌+◌, ◌-◌, ◌<◌, ◌≤◌, List, length, take, drop, slice_index_or}
-use Rattle.std.specs.List.{AllByRecursion as All}
+use Rattle.std.specs.List.{AllByRecursion}
 use Rattle.spaces.specs.declared.space.Alternative.{Alternative}
 use Rattle.spaces.specs.Spaces.{Apart, Meaning, Sound}
 
@@ -24,7 +24,7 @@ abbrev pub Headed : ℕ → ℕ → List ℕ → Type 0
 Headed goals root starts = (goals ≤ 4096) × (0 < goals → root < goals) × (goals ≡ 0 → root ≡ 0) × (length starts ≤ goals)
 
 pub record Kept (lists : ℕ → List Alternative) : Type 0 where
-  pub fit : (g : ℕ) → All (Sound g) (lists g)
+  pub fit : (g : ℕ) → AllByRecursion (Sound g) (lists g)
   pub apart : (g : ℕ) → Apart (lists g)
 
 -- what the ghost fields of a view say

@@ -1,4 +1,5 @@
 //! The memo file as a plan space: its format, the reading of a file, and the view that answers from it.
+#![tactic(auto)]
 
 mod fields;
 mod header;

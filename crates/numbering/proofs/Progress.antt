@@ -1,6 +1,6 @@
 -- How far a list has been read as a plan, with the goals due on a stack.
 use Rattle.std.proofs.Common.{◌≡◌, ℕ, zero, suc, ◌+◌, ◌*◌, ◌<◌, ◌≤◌, List, [], ◌∷◌, ◌++◌, map, length, take, Some, None, Option, sym, refl, ap, ◌∙◌, subst, subst₂, append_assoc, append-nil, mul_assoc, mul-le-mul_left, le-mul_of_pos_right, add-one, arith}
-use Rattle.std.specs.List.{AllByRecursion as All, slice_get}
+use Rattle.std.specs.List.{AllByRecursion, slice_get}
 use Rattle.spaces.specs.declared.space.Alternative.{Alternative}
 use Rattle.spaces.specs.Spaces.{Lawful, Meaning}
 use Rattle.spaces.specs.Places.{none_some, some_inj}
@@ -37,9 +37,9 @@ pub record Reading (m : Meaning) (list : List Node) (place : ℕ) (s : List Due)
   pub forth : (xs : List Node) (n : ℕ) → Rest m s xs n → Rest m (due m.root 1 ∷ []) (take place list ++ xs) (number + n)
   pub back : (xs : List Node) (n : ℕ) → Rest m (due m.root 1 ∷ []) (take place list ++ xs) n → (k : ℕ) × Rest m s xs k
   pub dues : due_after (m.root ∷ []) (take place list) ≡ goals s
-  pub weighed : All (Weighed m) s
-  pub later : All (HasPlan m) (rest_of s)
-  pub live : 0 < plans m → All (HasPlan m) s
+  pub weighed : AllByRecursion (Weighed m) s
+  pub later : AllByRecursion (HasPlan m) (rest_of s)
+  pub live : 0 < plans m → AllByRecursion (HasPlan m) s
   pub begun : plans m ≡ 0 → place ≡ 0
   pub fits : place + sizes m s ≤ largest m
 
@@ -67,14 +67,14 @@ goals_children : (a : Alternative) (x y : ℕ) (s : List Due) → due_then a (go
 goals_children a x y s =
     sym (goals_push (left_due a) x (push (right_due a) y s) ∙ ap (λ t. goals_of (left_due a) ++ t) (goals_push (right_due a) y s))
 
-all_rest : (P : Due → Type 0) (s : List Due) → All P s → All P (rest_of s)
+all_rest : (P : Due → Type 0) (s : List Due) → AllByRecursion P s → AllByRecursion P (rest_of s)
 all_rest P [] h = tt
 all_rest P (d ∷ s) h = h.1
 
 -- ---- plans of what is due
 
 module _ (m : Meaning) (law : Lawful m) where
-  completion : (s : List Due) → All (HasPlan m) s → (xs : List Node) × (n : ℕ) × Rest m s xs n
+  completion : (s : List Due) → AllByRecursion (HasPlan m) s → (xs : List Node) × (n : ℕ) × Rest m s xs n
   completion [] h = ([], 0, (refl, refl))
   completion (d ∷ s) h =
       let t = make m law (suc d.goal) (Some d.goal) 0 (λ g e. omega (arith, some_inj e)) h.0 in
@@ -105,7 +105,7 @@ module _ (m : Meaning) (law : Lawful m) where
 
   module _ (list : List Node) (place : ℕ) (s : List Due) (read : ℕ) (held : Reading m list place s read) where
     -- where something has a plan, the part read so far is a number below N
-    pub read_below : All (HasPlan m) s → read < plans m
+    pub read_below : AllByRecursion (HasPlan m) s → read < plans m
     read_below all =
         let r = completion s all in
         let p = rest_numbers (take place list ++ r.0) (read + r.1) (held.forth r.0 r.1 r.2) in
@@ -154,12 +154,12 @@ module _ (m : Meaning) (law : Lawful m) where
         let h : count m (left_due a) * count m (right_due a) ≤ count m (Some g) = omega (arith, ways_most) in
         omega (arith, goal_most, mul-le-mul_left w h, mul_assoc w (count m (left_due a)) (count m (right_due a)))
 
-    pub next_plans : All (HasPlan m) next
+    pub next_plans : AllByRecursion (HasPlan m) next
     next_plans =
         all_push (HasPlan m) (left_due a) w (push (right_due a) (w * count m (left_due a)) s) (λ h e. subst (λ o. 0 < count m o) e left_some)
         (all_push (HasPlan m) (right_due a) (w * count m (left_due a)) s (λ h e. subst (λ o. 0 < count m o) e right_some) held.later)
 
-    next_weighed : All (Weighed m) next
+    next_weighed : AllByRecursion (Weighed m) next
     next_weighed =
         all_push (Weighed m) (left_due a) w (push (right_due a) (w * count m (left_due a)) s)
         (λ h e. record { goal_below = omega (arith, left_under m law g live.index a h live.found e, held.weighed.0.goal_below); most = subst (λ o. w * count m o ≤ plans m) e left_most })

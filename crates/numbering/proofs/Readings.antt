@@ -1,5 +1,5 @@
 -- The steps of a loop that reads a plan's list with a stack of goals and weights.
-use Rattle.std.proofs.Common.{◌≡◌, ℕ, ◌+◌, ◌-◌, ◌*◌, List, [], ◌∷◌, ◌++◌, take, Some, None, Option, sym, refl, ap, ◌∙◌, subst, subst₂, append_assoc, mul_assoc, mul-zero, mul-add, arith}
+use Rattle.std.proofs.Common.{◌≡◌, ℕ, ◌+◌, ◌*◌, List, [], ◌∷◌, ◌++◌, take, Some, None, Option, sym, refl, ap, ◌∙◌, subst, subst₂, append_assoc, mul_assoc, mul-zero, mul-add, arith}
 use Rattle.std.specs.List.{slice_get}
 use Rattle.spaces.specs.declared.space.Alternative.{Alternative}
 use Rattle.spaces.specs.Spaces.{Lawful, Meaning}

@@ -1,7 +1,7 @@
 -- All complete plans written down in the order of their numbers.
-use Rattle.std.proofs.Common.{◌≡◌, ℕ, zero, suc, ◌+◌, ◌-◌, ◌<◌, ◌≤◌, List, [], ◌∷◌, ◌++◌, length, Some, sym, refl, ap, ◌∙◌, subst, ⊎_elim, arith}
+use Rattle.std.proofs.Common.{◌≡◌, ℕ, zero, suc, ◌+◌, ◌<◌, ◌≤◌, List, [], ◌∷◌, ◌++◌, length, Some, sym, refl, ap, ◌∙◌, subst, ⊎_elim, arith}
 use Rattle.std.proofs.lemmas.Bool.{cases_lt}
-use Rattle.std.specs.List.{AllByRecursion as All, slice_get}
+use Rattle.std.specs.List.{AllByRecursion, slice_get}
 use Rattle.spaces.specs.Places.{some_inj}
 use Rattle.spaces.specs.Spaces.{Apart, Lawful, Meaning}
 use Rattle.numbering.specs.Census.{Census}
@@ -22,8 +22,8 @@ module _ (m : Meaning) (law : Lawful m) where
   record Run (n a : ℕ) : Type 0 where
     plans : List (List Node)
     long : length plans ≡ n
-    complete : All (Complete m) plans
-    later : (t : Tree m (Some m.root)) → number t < a → All (λ y. nodes t ≡ y → ⊥) plans
+    complete : AllByRecursion (Complete m) plans
+    later : (t : Tree m (Some m.root)) → number t < a → AllByRecursion (λ y. nodes t ≡ y → ⊥) plans
     apart : Apart plans
     found : (t : Tree m (Some m.root)) → a ≤ number t → number t < a + n → (i : ℕ) × (slice_get plans i ≡ Some (nodes t))
 

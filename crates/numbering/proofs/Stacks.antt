@@ -1,7 +1,7 @@
 -- Stacks of goals due in a work buffer, and the sizes of what is due.
 use Rattle.std.proofs.Common.{◌≡◌, ℕ, zero, suc, ◌+◌, ◌-◌, ◌<◌, ◌≤◌, List, [], ◌∷◌, length, get_or, set, Some, None, Option, sym, refl, ap, ◌∙◌, ap₂, add-one, arith}
 use Rattle.std.proofs.lemmas.List.{get_or-set_other, get_or-set_same}
-use Rattle.std.specs.List.{AllByRecursion as All, slice_get}
+use Rattle.std.specs.List.{AllByRecursion, slice_get}
 use Rattle.spaces.specs.declared.space.Alternative.{Alternative}
 use Rattle.spaces.specs.Spaces.{Lawful, Meaning}
 use Rattle.spaces.specs.Places.{none_some, some_inj}
@@ -49,7 +49,7 @@ pub length_push : (o : Option ℕ) (n : ℕ) (s : List Due) → length (push o n
 length_push None n s = omega arith
 length_push (Some g) n s = omega arith
 
-pub all_push : (P : Due → Type 0) (o : Option ℕ) (n : ℕ) (s : List Due) → ((g : ℕ) → o ≡ Some g → P (due g n)) → All P s → All P (push o n s)
+pub all_push : (P : Due → Type 0) (o : Option ℕ) (n : ℕ) (s : List Due) → ((g : ℕ) → o ≡ Some g → P (due g n)) → AllByRecursion P s → AllByRecursion P (push o n s)
 all_push P None n s h all = all
 all_push P (Some g) n s h all = (h g refl, all)
 
@@ -64,7 +64,7 @@ module _ (m : Meaning) (law : Lawful m) where
       let p = place (count m) (m.lists g) 0 (omega (arith, count_goal m law g)) in
       omega (arith, size_falls m law g p.index p.alternative p.found (omega (arith, p.within)))
 
-  pub length_sizes : (s : List Due) → All (HasPlan m) s → length s ≤ sizes m s
+  pub length_sizes : (s : List Due) → AllByRecursion (HasPlan m) s → length s ≤ sizes m s
   length_sizes [] h = omega arith
   length_sizes (d ∷ s) h = omega (arith, length_sizes s h.1, size_some d.goal h.0)
 

@@ -1,5 +1,5 @@
 -- Trees and numbers, one to one.
-use Rattle.std.proofs.Common.{◌≡◌, ℕ, zero, suc, ◌+◌, ◌-◌, ◌*◌, ◌/◌, ◌%◌, ◌<◌, List, ◌∷◌, ◌++◌, take, Some, None, Option, sym, refl, ap, ◌∙◌, subst, append_assoc, zero-mul, arith}
+use Rattle.std.proofs.Common.{◌≡◌, ℕ, zero, suc, ◌+◌, ◌*◌, ◌/◌, ◌%◌, ◌<◌, List, ◌∷◌, ◌++◌, take, Some, None, Option, sym, refl, ap, ◌∙◌, subst, append_assoc, zero-mul, arith}
 use native.Mathlib.Nat.{mod-add-div}
 use Rattle.std.proofs.lemmas.Nat.{div_below, mod_below}
 use Rattle.spaces.specs.Spaces.{Meaning, Lawful}

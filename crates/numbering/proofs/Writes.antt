@@ -3,7 +3,7 @@ use Rattle.std.proofs.Common.{◌≡◌, ℕ, ◌+◌, ◌-◌, ◌*◌, ◌/◌
 use native.Mathlib.Nat.{mod-add-div}
 use Rattle.std.proofs.lemmas.Nat.{div_below, mod_below}
 use Rattle.std.proofs.lemmas.List.{drop-drop, drop-set-lt, length-take-le, take-append-drop, take_more_set}
-use Rattle.std.specs.List.{AllByRecursion as All}
+use Rattle.std.specs.List.{AllByRecursion}
 use Rattle.spaces.specs.declared.space.Alternative.{Alternative}
 use Rattle.spaces.specs.Spaces.{Lawful, Meaning}
 use Rattle.numbering.specs.declared.due.Due.{Due}
@@ -34,7 +34,7 @@ pub record Good (m : Meaning) (d : Due) : Type 0 where
   pub goal_below : d.goal < m.goals
   pub number_below : d.number < count m (Some d.goal)
 
-good_plan : (m : Meaning) (s : List Due) → All (Good m) s → All (HasPlan m) s
+good_plan : (m : Meaning) (s : List Due) → AllByRecursion (Good m) s → AllByRecursion (HasPlan m) s
 good_plan m [] h = tt
 good_plan m (d ∷ s) h = (omega (arith, h.0.number_below), good_plan m s h.1)
 
@@ -72,7 +72,7 @@ module _ (m : Meaning) (law : Lawful m) where
           rest = q.rest;
         }
 
-    good_children : (s : List Due) → g < m.goals → All (Good m) s → All (Good m) (children a (k % count m (left_due a)) (k / count m (left_due a)) s)
+    good_children : (s : List Due) → g < m.goals → AllByRecursion (Good m) s → AllByRecursion (Good m) (children a (k % count m (left_due a)) (k / count m (left_due a)) s)
     good_children s below all =
         let cl = count m (left_due a) in
         all_push (Good m) (left_due a) (k % cl) (push (right_due a) (k / cl) s)
@@ -88,7 +88,7 @@ shared a k c n p s t e q h = e ∙ ap (λ (x : ℕ × ℕ). children a x.0 x.1 s
 -- while the plan of a number is written: len nodes stand, and what the stack gives completes them
 pub record Writing (m : Meaning) (number : ℕ) (start plan : List Node) (work : List Due) (len depth : ℕ) : Type 0 where
   pub gives : (xs : List Node) → Gives m (stack depth work) xs → Gives m (due m.root number ∷ []) (take len plan ++ xs)
-  pub good : All (Good m) (stack depth work)
+  pub good : AllByRecursion (Good m) (stack depth work)
   pub fits : len + sizes m (stack depth work) ≤ largest m
   pub rest : drop len plan ≡ drop len start
 
@@ -98,7 +98,7 @@ writing_start m number root plan work e below h room =
     let s : stack 1 (set work 0 (due root number)) ≡ due m.root number ∷ [] = stack_push work 0 (due root number) room ∙ ap (λ r. due r number ∷ []) e in
     record {
       gives = λ xs r. subst (λ t. Gives m t xs) s r;
-      good = subst (All (Good m)) (sym s) (record { goal_below = below; number_below = h }, tt);
+      good = subst (AllByRecursion (Good m)) (sym s) (record { goal_below = below; number_below = h }, tt);
       fits = omega (arith, ap (sizes m) s);
       rest = refl;
     }
@@ -110,8 +110,8 @@ module _ (m : Meaning) (law : Lawful m) (number : ℕ) (start plan : List Node) 
   abbrev under : List Due
   under = stack (depth - 1) work
 
-  goods : All (Good m) (top ∷ under)
-  goods = subst (All (Good m)) (stack_top work depth some) held.good
+  goods : AllByRecursion (Good m) (top ∷ under)
+  goods = subst (AllByRecursion (Good m)) (stack_top work depth some) held.good
 
   pub top_good : Good m top
   top_good = goods.0
@@ -123,7 +123,7 @@ module _ (m : Meaning) (law : Lawful m) (number : ℕ) (start plan : List Node) 
     abbrev next : List Due
     next = children a (k % count m (left_due a)) (k / count m (left_due a)) under
 
-    next_good : All (Good m) next
+    next_good : AllByRecursion (Good m) next
     next_good = good_children m law top.goal top.number a k falls under top_good.goal_below goods.1
 
     pub next_less : sizes m next < sizes m (stack depth work)
@@ -157,7 +157,7 @@ module _ (m : Meaning) (law : Lawful m) (number : ℕ) (start plan : List Node) 
               subst (Gives m (due m.root number ∷ [])) (sym (whole xs))
               (held.gives (x ∷ xs) (subst (λ s. Gives m s (x ∷ xs)) (sym (stack_top work depth some))
               (step m law top.goal top.number a k falls under xs (subst (λ s. Gives m s xs) e r))));
-          good = subst (All (Good m)) (sym e) next_good;
+          good = subst (AllByRecursion (Good m)) (sym e) next_good;
           fits = omega (arith, ap (sizes m) e, next_less, held.fits);
           rest = drop-set-lt (len + 1) plan len x (omega arith) ∙ sym (drop-drop 1 len plan) ∙ ap (drop 1) held.rest ∙ drop-drop 1 len start;
         }

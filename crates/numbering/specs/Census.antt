@@ -1,6 +1,6 @@
 -- How many complete plans a space has, and how long the longest is.
 use Rattle.std.specs.Prelude.{◌≡◌, ℕ, ◌<◌, ◌≤◌, List, length, Some}
-use Rattle.std.specs.List.{AllByRecursion as All, slice_get}
+use Rattle.std.specs.List.{AllByRecursion, slice_get}
 use Rattle.spaces.specs.Spaces.{Apart, Meaning}
 use Rattle.numbering.specs.declared.node.Node.{Node}
 use Rattle.numbering.specs.Plans.{Complete}
@@ -9,7 +9,7 @@ use Rattle.numbering.specs.Plans.{Complete}
 pub record Roll (m : Meaning) : Type 0 where
   pub plans : List (List Node)
   pub apart : Apart plans
-  pub complete : All (Complete m) plans
+  pub complete : AllByRecursion (Complete m) plans
   pub whole : (list : List Node) → Complete m list → (i : ℕ) × (slice_get plans i ≡ Some list)
 
 -- m has n complete plans, and the longest has z nodes, none where there is no plan

@@ -67,7 +67,7 @@ pub(crate) fn alternative_tally(tallies: &[Tally], alternative: Alternative) -> 
 /// The tally of a goal, where `tallies` has those of the goals below it.
 fn goal_tally<S: Space>(space: &S, goal: u16, tallies: &[Tally]) -> Tally
     requires { goal ≤ length tallies.now }
-    ensures { result ≡ cut (of_list (look tallies.now) ((meaning space.now).lists goal)) }
+    ensures { result ≡ cut (of_list (look tallies.now) ((S.meaning space.now).lists goal)) }
 {
     let mut total = Tally { count: 0, size: 0 };
     for index in 0..space.width(goal) {
@@ -80,9 +80,9 @@ fn goal_tally<S: Space>(space: &S, goal: u16, tallies: &[Tally]) -> Tally
 
 /// Writes the tally of each goal, and tells whether some goal has too many plans.
 fn fill<S: Space>(space: &S, goals: u16, tallies: &mut [Tally]) -> bool
-    requires { (goals ≡ (meaning space.now).goals) × (goals ≤ length tallies.old) }
-    ensures over { result ≡ is_over (meaning space.now) goals }
-    ensures filled { tallies.new ≡ filled (meaning space.now) goals tallies.old }
+    requires { (goals ≡ (S.meaning space.now).goals) × (goals ≤ length tallies.old) }
+    ensures over { result ≡ is_over (S.meaning space.now) goals }
+    ensures filled { tallies.new ≡ filled (S.meaning space.now) goals tallies.old }
 {
     let mut over = false;
     for goal in 0..goals {
@@ -105,9 +105,9 @@ fn too_large(size: u16) -> bool
 /// Writes the tallies of all goals into the first entries of `tallies`, unless it is refused for
 /// want of goals or of room there.
 pub fn count<S: Space>(space: &S, tallies: &mut [Tally]) -> Result<(u64, u16), Refusal>
-    ensures answer { result ≡ answered (first_of (count_checks (meaning space.now) (length tallies.old))) (plans (meaning space.now), largest (meaning space.now)) }
-    ensures tallies { tallies.new ≡ after_tally (meaning space.now) tallies.old }
-    ensures census { IfOk result (λ p. Census (meaning space.now) p.0 p.1) }
+    ensures answer { result ≡ answered (first_of (count_checks (S.meaning space.now) (length tallies.old))) (plans (S.meaning space.now), largest (S.meaning space.now)) }
+    ensures tallies { tallies.new ≡ after_tally (S.meaning space.now) tallies.old }
+    ensures census { IfOk result (λ p. Census (S.meaning space.now) p.0 p.1) }
 {
     let goals = space.goals();
     if goals == 0 {

@@ -1,4 +1,5 @@
 //! Plans and their numbers over any space.
+#![tactic(auto)]
 
 pub mod counting;
 pub mod due;

@@ -6,7 +6,6 @@ ghost use Rattle.numbering.specs.Ranks.{rank_checks, Ranked, RankedOnly};
 ghost use Rattle.numbering.specs.Refusals.{after_tally, first_of};
 
 use crate::due::Due;
-use crate::lookup::Walk;
 use crate::node::Node;
 use crate::reading::number_of;
 use crate::ready::ready_to_rank;
@@ -23,11 +22,11 @@ pub fn rank<S: Space>(
     tallies: &mut [Tally],
     work: &mut [Due],
 ) -> Result<u64, Refusal>
-    ensures answer { Ranked (meaning space.now) (first_of (rank_checks (meaning space.now) (length tallies.old) (length work.old))) nodes.now result }
-    ensures only { RankedOnly (meaning space.now) (first_of (rank_checks (meaning space.now) (length tallies.old) (length work.old))) nodes.now result }
-    ensures tallies { tallies.new ≡ after_tally (meaning space.now) tallies.old }
-    ensures numbering { Numbering (meaning space.now) }
+    ensures answer { Ranked (S.meaning space.now) (first_of (rank_checks (S.meaning space.now) (length tallies.old) (length work.old))) nodes.now result }
+    ensures only { RankedOnly (S.meaning space.now) (first_of (rank_checks (S.meaning space.now) (length tallies.old) (length work.old))) nodes.now result }
+    ensures tallies { tallies.new ≡ after_tally (S.meaning space.now) tallies.old }
+    ensures numbering { Numbering (S.meaning space.now) }
 {
     ready_to_rank(space, tallies, work.len())?;
-    number_of(&Walk, space, nodes, tallies, work)
+    number_of(space, nodes, tallies, work)
 }

@@ -16,9 +16,9 @@ pub fn ready_to_rank<S: Space>(
     tallies: &mut [Tally],
     work: usize,
 ) -> Result<(u64, u16), Refusal>
-    ensures answer { result ≡ answered (first_of (rank_checks (meaning space.now) (length tallies.old) work)) (plans (meaning space.now), largest (meaning space.now)) }
-    ensures tallies { tallies.new ≡ after_tally (meaning space.now) tallies.old }
-    ensures standing { OnOk result (Standing (meaning space.now) tallies.new × (largest (meaning space.now) ≤ work)) }
+    ensures answer { result ≡ answered (first_of (rank_checks (S.meaning space.now) (length tallies.old) work)) (plans (S.meaning space.now), largest (S.meaning space.now)) }
+    ensures tallies { tallies.new ≡ after_tally (S.meaning space.now) tallies.old }
+    ensures standing { OnOk result (Standing (S.meaning space.now) tallies.new × (largest (S.meaning space.now) ≤ work)) }
 {
     let (plans, size) = count(space, tallies)?;
     if work < size as usize {
@@ -34,9 +34,9 @@ pub fn ready_to_write<S: Space>(
     work: usize,
     plan: usize,
 ) -> Result<(u64, u16), Refusal>
-    ensures answer { result ≡ answered (first_of (write_checks (meaning space.now) (length tallies.old) work plan)) (plans (meaning space.now), largest (meaning space.now)) }
-    ensures tallies { tallies.new ≡ after_tally (meaning space.now) tallies.old }
-    ensures standing { OnOk result (Standing (meaning space.now) tallies.new × (largest (meaning space.now) ≤ work) × (largest (meaning space.now) ≤ plan)) }
+    ensures answer { result ≡ answered (first_of (write_checks (S.meaning space.now) (length tallies.old) work plan)) (plans (S.meaning space.now), largest (S.meaning space.now)) }
+    ensures tallies { tallies.new ≡ after_tally (S.meaning space.now) tallies.old }
+    ensures standing { OnOk result (Standing (S.meaning space.now) tallies.new × (largest (S.meaning space.now) ≤ work) × (largest (S.meaning space.now) ≤ plan)) }
 {
     let (plans, size) = ready_to_rank(space, tallies, work)?;
     if plan < size as usize {

@@ -6,7 +6,6 @@ ghost use Rattle.numbering.specs.Ranks.{unrank_checks, Unranked, UnrankedOnly};
 ghost use Rattle.numbering.specs.Refusals.{after_tally, first_of};
 
 use crate::due::Due;
-use crate::lookup::Walk;
 use crate::node::Node;
 use crate::ready::ready_to_write;
 use crate::refusal::Refusal;
@@ -25,14 +24,14 @@ pub fn unrank<S: Space>(
     work: &mut [Due],
     plan: &mut [Node],
 ) -> Result<usize, Refusal>
-    ensures answer { Unranked (meaning space.now) (first_of (unrank_checks (meaning space.now) number (length tallies.old) (length work.old) (length plan.old))) number result plan.old plan.new }
-    ensures only { UnrankedOnly (meaning space.now) (first_of (unrank_checks (meaning space.now) number (length tallies.old) (length work.old) (length plan.old))) number result plan.old plan.new }
-    ensures tallies { tallies.new ≡ after_tally (meaning space.now) tallies.old }
-    ensures numbering { Numbering (meaning space.now) }
+    ensures answer { Unranked (S.meaning space.now) (first_of (unrank_checks (S.meaning space.now) number (length tallies.old) (length work.old) (length plan.old))) number result plan.old plan.new }
+    ensures only { UnrankedOnly (S.meaning space.now) (first_of (unrank_checks (S.meaning space.now) number (length tallies.old) (length work.old) (length plan.old))) number result plan.old plan.new }
+    ensures tallies { tallies.new ≡ after_tally (S.meaning space.now) tallies.old }
+    ensures numbering { Numbering (S.meaning space.now) }
 {
     let (plans, _) = ready_to_write(space, tallies, work.len(), plan.len())?;
     if number >= plans {
         return Err(Refusal::NoSuchPlan);
     }
-    Ok(write_plan(&Walk, space, number, tallies, work, plan))
+    Ok(write_plan(space, number, tallies, work, plan))
 }

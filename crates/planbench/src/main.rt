@@ -1,4 +1,5 @@
 //! The plan bench: counts the plans of a plan space, writes the plan of a number, tells the number of a plan, and conducts campaigns.
+#![tactic(auto)]
 
 mod campaign;
 mod conducting;
@@ -20,6 +21,7 @@ use crate::number::run_number;
 use crate::plan::run_plan;
 use crate::words::Words;
 use std::env;
+use std::process::ExitCode;
 
 const USAGE: &str = "usage: planbench count SPACE
        planbench plan SPACE NUMBER ..
@@ -46,10 +48,6 @@ every plan is drawn, or --draws are made. There is room for 4096 differing plans
 An ENGINE is cover, or rows: and the row counts of relations 0, 1, .. with commas between.
 ";
 
-/// The reason was told on standard error.
-#[derive(Drop)]
-struct Stopped;
-
 fn run(rt: &HostRuntime) -> Result<(), Failure> {
     let args: Vec<String> = env::args(rt)?.collect(rt.alloc())?;
     let mut words = Words::new(&args);
@@ -67,13 +65,14 @@ fn run(rt: &HostRuntime) -> Result<(), Failure> {
     }
 }
 
-fn main(rt: HostRuntime) -> Result<(), Stopped> {
+/// A failure is told on standard error.
+fn main(rt: HostRuntime) -> ExitCode {
     let Err(failure) = run(&rt) else {
-        return Ok(());
+        return ExitCode::SUCCESS;
     };
     let _ = eprintln!(rt; "planbench: {failure}");
     if let Failure::Usage(_) = failure {
         let _ = eprint!(rt; "{USAGE}");
     }
-    Err(Stopped)
+    ExitCode::FAILURE
 }

@@ -6,7 +6,7 @@ use Rattle.std.proofs.Math.Bridge.{le_prop}
 use std.HLevel.{Π_prop, ¬_prop}
 use Rattle.std.specs.Coded.{coded_ℕ}
 use denote.Struct.Props.{≡_prop}
-use Rattle.std.specs.List.{AllByRecursion as All, slice_get}
+use Rattle.std.specs.List.{AllByRecursion, slice_get}
 use Rattle.std.proofs.lemmas.List.{nil_from_length}
 use Rattle.std.proofs.lemmas.Option.{slice_get-get_or, slice_get_past}
 use Rattle.spaces.specs.declared.space.Alternative.{Alternative}
@@ -15,7 +15,7 @@ use Rattle.prepared.specs.Tables.{Indexed, begins, sliced}
 
 -- ---------- facts of one proof
 
-all_prop : {X : Type 0} (P : X → Type 0) → ((x : X) → IsProp (P x)) → (xs : List X) → IsProp (All P xs)
+all_prop : {X : Type 0} (P : X → Type 0) → ((x : X) → IsProp (P x)) → (xs : List X) → IsProp (AllByRecursion P xs)
 all_prop P h [] = λ x y. refl
 all_prop P h (x ∷ xs) = λ p q i. (h x p.0 q.0 i, all_prop P h xs p.1 q.1 i)
 

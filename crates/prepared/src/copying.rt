@@ -15,7 +15,7 @@ pub struct Lists {
 
 /// Copies the list of a goal behind what was copied before.
 fn copy_goal<S: Space>(space: &S, goal: u16, items: &mut Vec<Alternative>) -> Result<(), AllocError>
-    ensures { OnOk result (items.new.items ≡ items.old.items ++ (meaning space.now).lists goal) }
+    ensures { OnOk result (items.new.items ≡ items.old.items ++ (S.meaning space.now).lists goal) }
 {
     for index in 0..space.width(goal) {
         if let Some(alternative) = space.alternative(goal, index) {
@@ -27,8 +27,8 @@ fn copy_goal<S: Space>(space: &S, goal: u16, items: &mut Vec<Alternative>) -> Re
 
 /// Copies the lists of all goals in order.
 pub fn copy_lists<S: Space>(space: &S, goals: u16, heap: Global) -> Result<Lists, AllocError>
-    requires { goals ≡ (meaning space.now).goals }
-    ensures { IfOk result (λ c. Copied (meaning space.now).lists goals c.items.items c.starts.items) }
+    requires { goals ≡ (S.meaning space.now).goals }
+    ensures { IfOk result (λ c. Copied (S.meaning space.now).lists goals c.items.items c.starts.items) }
 {
     let mut items = Vec::new(heap);
     let mut starts = Vec::new(heap);

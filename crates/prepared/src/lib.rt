@@ -1,4 +1,5 @@
 //! A space prepared once: its alternatives, tallies and running sums in tables that answer at once.
+#![tactic(auto)]
 
 mod copying;
 mod listed;

@@ -17,9 +17,9 @@ fn sum_goal<S: Space>(
     tallies: &[Tally],
     sums: &mut Vec<u64>,
 ) -> Result<(), AllocError>
-    requires standing { Standing (meaning space.now) tallies.now }
-    requires within { goal < (meaning space.now).goals }
-    ensures { OnOk result (sums.new.items ≡ sums.old.items ++ goal_sums (meaning space.now) goal) }
+    requires standing { Standing (S.meaning space.now) tallies.now }
+    requires within { goal < (S.meaning space.now).goals }
+    ensures { OnOk result (sums.new.items ≡ sums.old.items ++ goal_sums (S.meaning space.now) goal) }
 {
     let mut before: u64 = 0;
     for index in 0..space.width(goal) {
@@ -37,8 +37,8 @@ pub fn sum_goals<S: Space>(
     tallies: &[Tally],
     heap: Global,
 ) -> Result<Vec<u64>, AllocError>
-    requires { Standing (meaning space.now) tallies.now }
-    ensures { IfOk result (λ sums. sums.items ≡ chained (goal_sums (meaning space.now)) (meaning space.now).goals) }
+    requires { Standing (S.meaning space.now) tallies.now }
+    ensures { IfOk result (λ sums. sums.items ≡ chained (goal_sums (S.meaning space.now)) (S.meaning space.now).goals) }
 {
     let mut sums = Vec::new(heap);
     for goal in 0..space.goals() {

@@ -12,8 +12,8 @@ use std::alloc::Global;
 
 /// The tallies of all goals, or why the space is not counted.
 pub fn tally_goals<S: Space>(space: &S, heap: Global) -> Result<Vec<Tally>, PrepareRefusal>
-    requires { 0 < (meaning space.now).goals }
-    ensures { MatchResult result (λ ts. Standing (meaning space.now) ts.items) (λ e. NotPrepared (meaning space.now) e) }
+    requires { 0 < (S.meaning space.now).goals }
+    ensures { MatchResult result (λ ts. Standing (S.meaning space.now) ts.items) (λ e. NotPrepared (S.meaning space.now) e) }
 {
     let mut tallies = vec![in heap; Tally { count: 0, size: 0 }; space.goals() as usize]?;
     count(space, tallies.as_mut_slice())?;

@@ -1,6 +1,6 @@
 -- Loops that append to a list, and loops over what was appended: one that keeps what passes a test, and one that changes each element.
 use Rattle.std.proofs.Common.{◌≡◌, ℕ, ◌+◌, ◌<◌, ◌≤◌, Bool, true, false, cond, List, [], ◌∷◌, ◌++◌, map, length, get_or, take, drop, set, Some, None, filter, sym, refl, ap, ◌∙◌, subst, zero-le, arith}
-use Rattle.std.specs.List.{AllByRecursion as All, slice_get}
+use Rattle.std.specs.List.{AllByRecursion, slice_get}
 use Rattle.std.proofs.lemmas.List.{append_assoc, append-nil, drop_all, drop_at, drop_more, drop-set-lt, length_push, length-set, take-append-drop, take-append-le, take_at, take_more_set}
 use Rattle.spaces.specs.Places.{drop_none, drop_some, some_below}
 
@@ -72,7 +72,7 @@ sieve_end p whole now n end at s l =
 -- The first `at` places of a list of n are as f makes them; with f of the others, which P holds of, they come to `whole`.
 pub record Changing {X : Type 0} (P : X → Type 0) (f : X → X) (whole now : List X) (n at : ℕ) : Type 0 where
   pub long : length now ≡ n
-  pub left : All P (drop at now)
+  pub left : AllByRecursion P (drop at now)
   pub same : take at now ++ map f (drop at now) ≡ whole
 
 module _ {X : Type 0} (P : X → Type 0) (f : X → X) (whole now : List X) (n at : ℕ) (x : X) (s : Changing P f whole now n at) (l : at < n) (here : x ≡ get_or now at x) where
@@ -83,14 +83,14 @@ module _ {X : Type 0} (P : X → Type 0) (f : X → X) (whole now : List X) (n a
   next = drop_more now at x at_below ∙ ap (λ y. y ∷ drop (at + 1) now) (sym here)
 
   pub change_holds : P x
-  change_holds = (subst (All P) next s.left).0
+  change_holds = (subst (AllByRecursion P) next s.left).0
 
   pub change_more : (y : X) → y ≡ f x → Changing P f whole (set now at y) n (at + 1)
   change_more y e =
       let rest : drop (at + 1) (set now at y) ≡ drop (at + 1) now = drop-set-lt (at + 1) now at y (omega arith) in
       record {
         long = length-set now at y ∙ s.long;
-        left = subst (All P) (sym rest) (subst (All P) next s.left).1;
+        left = subst (AllByRecursion P) (sym rest) (subst (AllByRecursion P) next s.left).1;
         same =
             ap (λ ys. ys ++ map f (drop (at + 1) (set now at y))) (take_more_set now at y at_below)
             ∙ ap (λ ys. (take at now ++ (y ∷ [])) ++ map f ys) rest
@@ -113,8 +113,8 @@ module _ {X : Type 0} (old xs now : List X) (e : now ≡ old ++ xs) where
   fronted = ap (take (length old)) e ∙ take_at old xs (length old) refl
 
   module _ (n : ℕ) (l : length old ≡ n) where
-    pub all_behind : (P : X → Type 0) → All P xs → All P (drop n now)
-    all_behind P h = subst (All P) (sym (ap (drop n) e ∙ drop_at old xs n l)) h
+    pub all_behind : (P : X → Type 0) → AllByRecursion P xs → AllByRecursion P (drop n now)
+    all_behind P h = subst (AllByRecursion P) (sym (ap (drop n) e ∙ drop_at old xs n l)) h
 
     pub behind : (F : List X → List X) → take n now ++ F (drop n now) ≡ old ++ F xs
     behind F = ap (λ ys. take n ys ++ F (drop n ys)) e ∙ ap (λ ys. ys ++ F (drop n (old ++ xs))) (take_at old xs n l) ∙ ap (λ ys. old ++ F ys) (drop_at old xs n l)

@@ -1,7 +1,7 @@
 -- The bushy trees: their lists read by places, and their laws.
-use Rattle.std.specs.Prelude.{◌≡◌, ℕ, zero, suc, ◌+◌, ◌-◌, ◌*◌, ◌%◌, ◌^◌, ◌<◌, ◌≤◌, ◌⊎◌, List, [], ◌∷◌, map, length, Some, None, ◌==◌, ◌≢◌, count_ones, nat_lt, refl}
+use Rattle.std.specs.Prelude.{◌≡◌, ℕ, zero, suc, ◌+◌, ◌-◌, ◌*◌, ◌%◌, ◌^◌, ◌<◌, ◌≤◌, List, [], ◌∷◌, map, length, Some, None, ◌==◌, ◌≢◌, count_ones, nat_lt, refl}
 use Rattle.std.proofs.Common.{sym, ap, ◌∙◌, ⊎_elim, zero-le, arith, pow_pos, pow_mono}
-use Rattle.std.specs.List.{range_with_len, AllByRecursion as All, slice_get}
+use Rattle.std.specs.List.{range_with_len, AllByRecursion, slice_get}
 use Rattle.std.proofs.lemmas.Option.{slice_get-get_or, slice_get_past}
 use Rattle.std.proofs.lemmas.List.FromFn.{length-map-range_with_len, get_or-map-range_with_len}
 use Rattle.std.proofs.lemmas.Nat.{one_shl, ones-le, trailing_le}
@@ -15,7 +15,7 @@ use Rattle.spaces.specs.Digits.{dep_le, dep_zero, dep_full, dep_inj}
 
 -- ---- a list by a function of the index
 
-all_counting : {X : Type 0} (P : X → Type 0) (f : ℕ → X) (a n : ℕ) → ((j : ℕ) → j < a + n → P (f j)) → All P (map f (range_with_len a n))
+all_counting : {X : Type 0} (P : X → Type 0) (f : ℕ → X) (a n : ℕ) → ((j : ℕ) → j < a + n → P (f j)) → AllByRecursion P (map f (range_with_len a n))
 all_counting P f a zero h = tt
 all_counting P f a (suc n) h = (h a (omega arith), all_counting P f (a + 1) n (λ j l. h j (omega arith)))
 
@@ -24,7 +24,7 @@ apart_counting f m a zero l inj = tt
 apart_counting {X} f m a (suc n) l inj =
     (others (a + 1) n (omega arith) (omega arith), apart_counting f m (a + 1) n (omega arith) inj)
   where
-    others : (b k : ℕ) → a < b → b + k ≤ m → All (λ y. f a ≢ y) (map f (range_with_len b k))
+    others : (b k : ℕ) → a < b → b + k ≤ m → AllByRecursion (λ y. f a ≢ y) (map f (range_with_len b k))
     others b zero lt le = tt
     others b (suc k) lt le = ((λ e. let same : a ≡ b = inj a b (omega arith) (omega arith) e in omega arith), others (b + 1) k (omega arith) (omega arith))
 
@@ -129,7 +129,7 @@ bushes_lawful n join few two =
       root_none = λ e. omega arith;
       outside = λ g l. at_out n join g l;
       narrow = λ g. by_list n join g (λ ys. length ys ≤ 4096 + g) zero-le (λ l. omega arith) (λ l. let s = pow_few n g few.1 l in omega (arith, s.0, length-map-range_with_len (split join g) 0 (2 ^ count_ones g - 2)));
-      sound = λ g. by_list n join g (All (Sound g)) tt (λ l. (scan_sound g, tt)) (λ l. all_counting (Sound g) (split join g) 0 (2 ^ count_ones g - 2) (λ j lt. split_sound join g j two (omega arith) (omega arith)));
+      sound = λ g. by_list n join g (AllByRecursion (Sound g)) tt (λ l. (scan_sound g, tt)) (λ l. all_counting (Sound g) (split join g) 0 (2 ^ count_ones g - 2) (λ j lt. split_sound join g j two (omega arith) (omega arith)));
       distinct = λ g. by_list n join g Apart tt (λ l. (tt, tt)) (λ l. apart_counting (split join g) (2 ^ count_ones g - 2) 0 (2 ^ count_ones g - 2) (omega arith)
           (λ i j a b e. let same : i + 1 ≡ j + 1 = dep_inj 16 g (i + 1) (j + 1) (omega arith) (omega arith) (omega arith) (ap (λ (x : Alternative). x.left) e) in omega arith));
     }

@@ -1,7 +1,7 @@
 -- Lists read by places (`nth`); `All`, `Apart` and lengths of lists that are kept, mapped or longer by one.
-use Rattle.std.specs.Prelude.{◌≡◌, ℕ, zero, suc, ◌+◌, ◌<◌, ◌≤◌, Bool, true, false, cond, List, [], ◌∷◌, ◌++◌, map, length, Some, None, filter, ◌≢◌, refl}
+use Rattle.std.specs.Prelude.{◌≡◌, ℕ, zero, suc, ◌<◌, ◌≤◌, Bool, true, false, cond, List, [], ◌∷◌, ◌++◌, map, length, Some, None, filter, ◌≢◌, refl}
 use Rattle.std.proofs.Common.{ap, sym, zero-le, arith, length-append}
-use Rattle.std.specs.List.{AllByRecursion as All, slice_get}
+use Rattle.std.specs.List.{AllByRecursion, slice_get}
 use Rattle.std.proofs.ByRecursion.{all_kept_by, All-map, All-push, All-weaker}
 use Rattle.std.proofs.lemmas.Option.{slice_get_past}
 use Rattle.spaces.specs.Spaces.{Apart}
@@ -53,6 +53,6 @@ apart_map f inj [] h = tt
 apart_map f inj (x ∷ xs) h =
     (All-map (λ z. f x ≢ z) f xs (All-weaker (λ y. x ≢ y) (λ y. f x ≢ f y) (λ y ne e. ne (inj x y e)) xs h.0), apart_map f inj xs h.1)
 
-pub apart_push : {X : Type 0} (xs : List X) (y : X) → Apart xs → All (λ x. x ≢ y) xs → Apart (xs ++ (y ∷ []))
+pub apart_push : {X : Type 0} (xs : List X) (y : X) → Apart xs → AllByRecursion (λ x. x ≢ y) xs → Apart (xs ++ (y ∷ []))
 apart_push [] y h n = (tt, tt)
 apart_push (x ∷ xs) y h n = (All-push (λ z. x ≢ z) xs y h.0 n.0, apart_push xs y h.1 n.1)

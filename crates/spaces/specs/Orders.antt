@@ -1,6 +1,6 @@
 -- The layer that tells apart goals in any order and sorted ones: goal 2g is 'g in any order', and goal 2g + 1 is 'g sorted'.
 use Rattle.std.specs.Prelude.{◌≡◌, ℕ, ◌+◌, ◌*◌, ◌/◌, ◌%◌, ◌<◌, Bool, true, false, cond, List, [], ◌∷◌, ◌++◌, map, filter, ◌==◌, nat_le, nat_lt}
-use Rattle.std.specs.List.{AllByRecursion as All}
+use Rattle.std.specs.List.{AllByRecursion}
 use Rattle.spaces.specs.declared.kind.Kind.TheVariants.{Sort}
 use Rattle.spaces.specs.declared.order.Order.{Order}
 use Rattle.spaces.specs.declared.order.Order.TheVariants.{Any, Sorted}
@@ -70,4 +70,4 @@ pub record Orderly (h : ℕ) (a : Alternative) : Type 0 where
 
 -- every goal keeps that promise for all its alternatives
 abbrev pub KeepsOrders : Meaning → Type 0
-KeepsOrders m = (h : ℕ) → All (Orderly h) (m.lists h)
+KeepsOrders m = (h : ℕ) → AllByRecursion (Orderly h) (m.lists h)

@@ -2,7 +2,7 @@
 use Rattle.std.specs.Prelude.{◌≡◌, ℕ, zero, suc, ◌+◌, ◌*◌, ◌/◌, ◌%◌, ◌<◌, ◌≤◌, Bool, true, false, List, [], ◌∷◌, map, length, Some, None, filter, Option, ◌==◌, ◌≢◌, nat_le, nat_lt, refl}
 use Rattle.std.proofs.Common.{ap, subst, sym, ◌∙◌, ⊎_elim, suc-le-suc, zero-le, arith, lit<, lit≤, length-append}
 use Rattle.std.proofs.lemmas.List.{length-map}
-use Rattle.std.specs.List.{AllByRecursion as All, slice_get}
+use Rattle.std.specs.List.{AllByRecursion, slice_get}
 use Rattle.std.proofs.ByRecursion.{all_kept_by, All-map, All-push, All-weaker, kept_by_passes}
 use Rattle.std.proofs.lemmas.Bool.{cases_lt, cond_both, cond-false, cond-true, eq-eqb, eqb-false, eqb-true, false≢true, le-ltb, leb-true, ne_eqb}
 use Rattle.spaces.specs.declared.kind.Kind.{Kind}
@@ -10,7 +10,7 @@ use Rattle.spaces.specs.declared.kind.Kind.TheVariants.{Filter, HashJoin, IndexS
 use Rattle.spaces.specs.declared.order.Order.{Order}
 use Rattle.spaces.specs.declared.space.Alternative.{Alternative}
 use Rattle.spaces.specs.Kinds.{arity}
-use Rattle.spaces.specs.Orders.{KeepsOrders, Orderly, Small, asks, is_sorted, lifted, order_goals, order_list, ordered, place, sort_of, sortable}
+use Rattle.spaces.specs.Orders.{KeepsOrders, Orderly, asks, is_sorted, lifted, order_goals, order_list, ordered, place, sort_of, sortable}
 use Rattle.spaces.specs.Sorting.{output_sorted, wants_left, wants_right}
 use Rattle.spaces.specs.Spaces.{Apart, Lawful, Meaning, Sound}
 use Rattle.spaces.specs.Lists.{apart_kept, apart_map, apart_push, kept_shorter, nth_front, nth_last, nth_map_none, nth_map_some, nth_over}
@@ -50,20 +50,23 @@ pub children_small : (g : ℕ) (a : Alternative) → Sound g a → (a.left ≤ g
 children_small g a s =
     (left_small g a.left (arity a.kind) s.left_below s.left_unused, right_small g a.right (arity a.kind) (arity_le a.kind) s.right_below s.right_unused)
 
+abbrev Few : Alternative → Type 0
+Few a = (a.left < 4096) × (a.right < 4096)
+
 -- a goal with an alternative is below 4,096, and so are its children
-pub all_few : (m : Meaning) → Lawful m → (g : ℕ) → All Small (m.lists g)
+pub all_few : (m : Meaning) → Lawful m → (g : ℕ) → AllByRecursion Few (m.lists g)
 all_few m w g =
     ⊎_elim
-    (λ (l : g < m.goals). All-weaker (Sound g) Small (λ a s. let small = children_small g a s in (omega (arith, small.0, w.few), omega (arith, small.1, w.few))) (m.lists g) (w.sound g))
-    (λ (o : m.goals ≤ g). subst (All Small) (sym (w.outside g o)) tt)
+    (λ (l : g < m.goals). All-weaker (Sound g) Few (λ a s. let small = children_small g a s in (omega (arith, small.0, w.few), omega (arith, small.1, w.few))) (m.lists g) (w.sound g))
+    (λ (o : m.goals ≤ g). subst (AllByRecursion Few) (sym (w.outside g o)) tt)
     (cases_lt g m.goals)
 
 pub children_few : (m : Meaning) → Lawful m → (g i : ℕ) (a : Alternative) (r : Option Alternative) → r ≡ slice_get (m.lists g) i → r ≡ Some a → (a.left < 4096) × (a.right < 4096)
-children_few m w g i a r e f = all_nth Small (m.lists g) i a (all_few m w g) (sym e ∙ f)
+children_few m w g i a r e f = all_nth Few (m.lists g) i a (all_few m w g) (sym e ∙ f)
 
 pub kept_few : (m : Meaning) → Lawful m → (g i : ℕ) (a : Alternative) (r : Option Alternative) → r ≡ slice_get (filter sortable (m.lists g)) i → r ≡ Some a → (a.left < 4096) × (a.right < 4096)
 kept_few m w g i a r e f =
-    all_nth Small (filter sortable (m.lists g)) i a (all_kept_by sortable Small (m.lists g) (all_few m w g)) (sym e ∙ f)
+    all_nth Few (filter sortable (m.lists g)) i a (all_kept_by sortable Few (m.lists g) (all_few m w g)) (sym e ∙ f)
 
 -- ---- lists by places
 
@@ -167,14 +170,14 @@ by_goal m wish P h none odd even =
     cond_both (nat_lt h (order_goals m.goals)) (at (h % 2 == 1)) [] P (λ _. here (h % 2 == 1) refl) (λ _. none)
 
 -- the list xs of g, lifted for the goal h: the laws of one list
-module _ (g h : ℕ) (xs : List Alternative) (sound : All (Sound g) xs) where
-  all_lifted : (asked : Bool) → 2 * g ≤ h → All (λ a. Sound h (lifted asked a)) xs
+module _ (g h : ℕ) (xs : List Alternative) (sound : AllByRecursion (Sound g) xs) where
+  all_lifted : (asked : Bool) → 2 * g ≤ h → AllByRecursion (λ a. Sound h (lifted asked a)) xs
   all_lifted asked up = All-weaker (Sound g) (λ a. Sound h (lifted asked a)) (λ a. lifted_sound asked g h a up) xs sound
 
-  any_sound : 2 * g ≤ h → All (Sound h) (order_list false g xs)
+  any_sound : 2 * g ≤ h → AllByRecursion (Sound h) (order_list false g xs)
   any_sound up = All-map (Sound h) (lifted false) xs (all_lifted false up)
 
-  sorted_sound : 2 * g < h → All (Sound h) (order_list true g xs)
+  sorted_sound : 2 * g < h → AllByRecursion (Sound h) (order_list true g xs)
   sorted_sound up =
       All-push (Sound h) (map (lifted true) (filter sortable xs)) (sort_of g)
       (All-map (Sound h) (lifted true) (filter sortable xs) (all_kept_by sortable (λ a. Sound h (lifted true a)) xs (all_lifted true (omega arith))))
@@ -204,7 +207,7 @@ ordered_lawful m wish w = record {
   narrow = λ h. by_goal m wish (λ ys. length ys ≤ 4096 + h) h zero-le
       (λ e. omega (arith, sorted_short (h / 2) (m.lists (h / 2)), w.narrow (h / 2)))
       (λ e. omega (arith, length-map (m.lists (h / 2)) (lifted false), w.narrow (h / 2)));
-  sound = λ h. by_goal m wish (All (Sound h)) h tt
+  sound = λ h. by_goal m wish (AllByRecursion (Sound h)) h tt
       (λ e. sorted_sound (h / 2) h (m.lists (h / 2)) (w.sound (h / 2)) (omega arith))
       (λ e. any_sound (h / 2) h (m.lists (h / 2)) (w.sound (h / 2)) (omega arith));
   distinct = λ h. by_goal m wish Apart h tt
@@ -242,12 +245,12 @@ lifted_orderly h asked here a passes =
 sort_orderly : (h g : ℕ) → Orderly h (sort_of g)
 sort_orderly h g = record { gives = λ _. refl; left_met = λ w. absurd (false≢true w); right_met = λ w. absurd (false≢true w) }
 
-all_true : {X : Type 0} (P : X → Type 0) → ((x : X) → P x) → (xs : List X) → All P xs
+all_true : {X : Type 0} (P : X → Type 0) → ((x : X) → P x) → (xs : List X) → AllByRecursion P xs
 all_true P f [] = tt
 all_true P f (x ∷ xs) = (f x, all_true P f xs)
 
 pub keeps_orders : (m : Meaning) (wish : Order) → KeepsOrders (ordered m wish)
-keeps_orders m wish h = by_goal m wish (All (Orderly h)) h tt
+keeps_orders m wish h = by_goal m wish (AllByRecursion (Orderly h)) h tt
     (λ e.
     let ys : List Alternative = filter sortable (m.lists (h / 2)) in
     All-push (Orderly h) (map (lifted true) ys) (sort_of (h / 2))

@@ -1,7 +1,7 @@
 -- Places in a list: what is found there, `All` and `Apart` read by places, and what is ahead of a place.
 use Rattle.std.specs.Prelude.{◌≡◌, ℕ, zero, suc, ◌+◌, ◌<◌, ◌≤◌, List, [], ◌∷◌, length, drop, Some, None, Option, ◌≢◌, refl}
 use Rattle.std.proofs.Common.{ap, subst, sym, suc-le-suc, zero-le, add-one, arith}
-use Rattle.std.specs.List.{AllByRecursion as All, slice_get}
+use Rattle.std.specs.List.{AllByRecursion, slice_get}
 use Rattle.spaces.specs.Spaces.{Apart}
 
 pub none_some : {A : Type 0} {x : A} {R : Type 0} → ◌≡◌ {A = Option A} None (Some x) → R
@@ -31,7 +31,7 @@ drop_none [] (suc i) e = refl
 drop_none (x ∷ xs) zero e = none_some (sym e)
 drop_none (x ∷ xs) (suc i) e = drop_none xs i e
 
-pub all_nth : {X : Type 0} (P : X → Type 0) (xs : List X) (i : ℕ) (a : X) → All P xs → slice_get xs i ≡ Some a → P a
+pub all_nth : {X : Type 0} (P : X → Type 0) (xs : List X) (i : ℕ) (a : X) → AllByRecursion P xs → slice_get xs i ≡ Some a → P a
 all_nth P [] i a h e = none_some e
 all_nth P (x ∷ xs) zero a h e = subst P (some_inj e) h.0
 all_nth P (x ∷ xs) (suc i) a h e = all_nth P xs i a h.1 e

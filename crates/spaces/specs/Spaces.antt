@@ -1,6 +1,6 @@
 -- What a plan space means, and the laws of every space.
 use Rattle.std.specs.Prelude.{◌≡◌, ℕ, ◌+◌, ◌<◌, ◌≤◌, List, [], ◌∷◌, ◌++◌, length, take, IfOk, Result, ◌≢◌}
-use Rattle.std.specs.List.{AllByRecursion as All}
+use Rattle.std.specs.List.{AllByRecursion}
 use Rattle.spaces.specs.declared.space.Alternative.{Alternative}
 use Rattle.spaces.specs.Kinds.{arity}
 
@@ -21,7 +21,7 @@ pub record Sound (g : ℕ) (a : Alternative) : Type 0 where
 -- no two of a list are equal
 abbrev pub Apart : {X : Type 0} → List X → Type 0
 Apart [] = Unit {0}
-Apart (x ∷ xs) = All (λ y. x ≢ y) xs × Apart xs
+Apart (x ∷ xs) = AllByRecursion (λ y. x ≢ y) xs × Apart xs
 
 -- What a call leaves of a list that it appends xs to: xs stands behind what stood there, `old`; where memory was short, it still begins with that.
 pub record Appended {E : Type 0} (old now xs : List Alternative) (r : Result (Unit {0}) E) : Type 0 where
@@ -34,5 +34,5 @@ pub record Lawful (m : Meaning) : Type 0 where
   pub root_none : m.goals ≡ 0 → m.root ≡ 0
   pub outside : (g : ℕ) → m.goals ≤ g → m.lists g ≡ []
   pub narrow : (g : ℕ) → length (m.lists g) ≤ 4096 + g
-  pub sound : (g : ℕ) → All (Sound g) (m.lists g)
+  pub sound : (g : ℕ) → AllByRecursion (Sound g) (m.lists g)
   pub distinct : (g : ℕ) → Apart (m.lists g)

@@ -119,7 +119,12 @@ impl Space for Bushy {
             return None;
         }
         if goal.count_ones() == 1 {
-            return Some(scan_of(goal));
+            return Some(Alternative {
+                kind: Kind::Scan,
+                tag: goal.trailing_zeros() as u16,
+                left: 0,
+                right: 0,
+            });
         }
         let left = carried(goal, index as u16 + 1);
         Some(Alternative {

@@ -1,4 +1,5 @@
 //! What a plan space is, and the spaces that are computed.
+#![tactic(auto)]
 
 pub mod bushy;
 pub mod filter;

@@ -3,7 +3,7 @@
 ghost use Rattle.std.specs.Prelude.{◌≡◌, ◌<◌, true, false, ◌++◌, map, length, take, drop};
 ghost use Rattle.spaces.specs.Orders.{KeepsOrders, Small, asks, lifted, order_list, ordered, place, sort_of, sortable};
 ghost use Rattle.spaces.specs.Spaces.{Appended};
-ghost use Rattle.std.specs.List.{AllByRecursion as All, slice_get};
+ghost use Rattle.std.specs.List.{AllByRecursion, slice_get};
 ghost use Rattle.spaces.specs.OrdersLemmas.{ordered_lawful};
 
 use crate::keep::{Test, kept_at, kept_width, sieve};
@@ -143,7 +143,7 @@ fn sorted_at<S: Space>(below: &S, goal: u16, index: u32) -> Option<Alternative>
 
 /// Makes each alternative below, from the place `from` on, one of the layer.
 fn lift_all(items: &mut Vec<Alternative>, from: usize, asked: bool)
-    requires { All Small (drop from items.old.items) }
+    requires { AllByRecursion Small (drop from items.old.items) }
     ensures { items.new.items ≡ take from items.old.items ++ map (lifted asked) (drop from items.old.items) }
 {
     for at in from..items.len() {

@@ -2,7 +2,7 @@
 use Rattle.std.proofs.Common.{◌≡◌, ℕ, zero, suc, ◌+◌, ◌-◌, ◌<◌, ◌≤◌, Bool, true, false, cond, eqb, List, [], ◌∷◌, ◌++◌, length, take, drop, Some, None, Option, sym, refl, ap, ◌∙◌, subst, ⊎_elim, append_assoc, append-nil, arith, length-append, length-drop, take-append-drop}
 use Rattle.std.proofs.lemmas.List.{length-take-le, take_all, take_at}
 use Rattle.std.proofs.lemmas.Bool.{cases_lt}
-use Rattle.std.specs.List.{slice_get, AllByRecursion as All}
+use Rattle.std.specs.List.{slice_get, AllByRecursion}
 use Rattle.std.specs.Char.{is_ascii_digit}
 use Rattle.spaces.specs.Places.{none_some}
 use Rattle.spaces.specs.declared.space.Alternative.{Alternative}
@@ -72,7 +72,7 @@ module _ (m : Meaning) where
     pub whole : list ++ stripped (plan_nodes plans) ≡ stripped (nodes t)
     pub many : due ≡ true → length plans ≡ commas s + 1
     pub none_left : due ≡ false → length plans ≡ 0
-    pub marks : All (λ c. is_ascii_digit c ≡ false) s
+    pub marks : AllByRecursion (λ c. is_ascii_digit c ≡ false) s
 
   -- the first plan ahead, taken apart: its top node, and the plans ahead then
   pub record Next (s : List ℕ) (ps : List Plan) : Type 0 where
@@ -115,7 +115,7 @@ module _ (m : Meaning) where
     next s (p ∷ ps) h = next_plan s p.tree ps
 
   -- no digit follows a node's own part
-  plain : (k : ℕ) (s : List ℕ) (ts : List (List ℕ)) → All (λ c. is_ascii_digit c ≡ false) s → (k ≡ 0 → length ts ≡ commas s) → NoDigit (passed k s ++ ahead (due_then k s) ts)
+  plain : (k : ℕ) (s : List ℕ) (ts : List (List ℕ)) → AllByRecursion (λ c. is_ascii_digit c ≡ false) s → (k ≡ 0 → length ts ≡ commas s) → NoDigit (passed k s ++ ahead (due_then k s) ts)
   plain zero [] [] marks few = tt
   plain zero [] (t ∷ ts) marks few = absurd (omega (arith, few refl))
   plain zero (c ∷ s) ts marks few = marks.0
@@ -159,14 +159,14 @@ module _ (m : Meaning) where
           pick false s f more = omega (arith, more f)
   then_none (suc k) n s e off = let z : ◌≡◌ {A = ℕ} 1 0 = ap (λ b. cond b 1 0) off in absurd (omega arith)
 
-  then_marks : (k : ℕ) (s : List ℕ) → All (λ c. is_ascii_digit c ≡ false) s → All (λ c. is_ascii_digit c ≡ false) (due_then k s)
+  then_marks : (k : ℕ) (s : List ℕ) → AllByRecursion (λ c. is_ascii_digit c ≡ false) s → AllByRecursion (λ c. is_ascii_digit c ≡ false) (due_then k s)
   then_marks zero s marks = go s marks
     where
-      go : (s : List ℕ) → All (λ c. is_ascii_digit c ≡ false) s → All (λ c. is_ascii_digit c ≡ false) (opening s)
+      go : (s : List ℕ) → AllByRecursion (λ c. is_ascii_digit c ≡ false) s → AllByRecursion (λ c. is_ascii_digit c ≡ false) (opening s)
       go [] marks = tt
       go (c ∷ s) marks = pick (eqb c 44) s marks.1 (go s marks.1)
         where
-          pick : (b : Bool) (s : List ℕ) → All (λ c. is_ascii_digit c ≡ false) s → All (λ c. is_ascii_digit c ≡ false) (opening s) → All (λ c. is_ascii_digit c ≡ false) (cond b s (opening s))
+          pick : (b : Bool) (s : List ℕ) → AllByRecursion (λ c. is_ascii_digit c ≡ false) s → AllByRecursion (λ c. is_ascii_digit c ≡ false) (opening s) → AllByRecursion (λ c. is_ascii_digit c ≡ false) (cond b s (opening s))
           pick true s marks more = marks
           pick false s marks more = more
   then_marks (suc zero) s marks = (refl, marks)
@@ -352,7 +352,7 @@ module _ (bytes : List ℕ) (i : ℕ) (s : List ℕ) (list : List Node) (before 
                 whole = append_assoc list (n ∷ []) (stripped (plan_nodes m f.later)) ∙ ap (λ x. list ++ x) (sym f.whole) ∙ f.now.whole;
                 many = λ o. then_many m k (length f.later) s (arity_most n.alternative.kind) f.count (sym p.more ∙ o) ∙ ap (λ z. commas m z + 1) (sym p.due);
                 none_left = λ o. then_none m k (length f.later) s f.count (sym p.more ∙ o);
-                marks = subst (All (λ c. is_ascii_digit c ≡ false)) (sym p.due) (then_marks m k s f.now.marks);
+                marks = subst (AllByRecursion (λ c. is_ascii_digit c ≡ false)) (sym p.due) (then_marks m k s f.now.marks);
               };
         }
 

@@ -1,4 +1,5 @@
 //! Plans as text: a plan, its line with its number, a report of many lines, and texts read back.
+#![tactic(auto)]
 
 mod decimal;
 pub mod error;

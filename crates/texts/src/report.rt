@@ -38,9 +38,9 @@ fn measure_line<S: Space>(
     work: &mut [Due],
     plan: &mut [Node],
 ) -> u128
-    requires prepared { Prepared (meaning space.now) tallies.now (length work.old) (length plan.old) }
-    requires below { number < plans (meaning space.now) }
-    ensures { Measured (meaning space.now) number result }
+    requires prepared { Prepared (S.meaning space.now) tallies.now (length work.old) (length plan.old) }
+    requires below { number < plans (S.meaning space.now) }
+    ensures { Measured (S.meaning space.now) number result }
 {
     let len = write_plan(space, number, tallies, work, plan);
     line_length(number, &plan[..len])
@@ -56,10 +56,10 @@ fn write_line<S: Space>(
     out: &mut [u8],
     at: usize,
 ) -> usize
-    requires prepared { Prepared (meaning space.now) tallies.now (length work.old) (length plan.old) }
-    requires below { number < plans (meaning space.now) }
-    requires room { (bytes : List ℕ) → IsLine (meaning space.now) number bytes → at + length bytes ≤ length out.old }
-    ensures { Put (meaning space.now) number at result out.old out.new }
+    requires prepared { Prepared (S.meaning space.now) tallies.now (length work.old) (length plan.old) }
+    requires below { number < plans (S.meaning space.now) }
+    requires room { (bytes : List ℕ) → IsLine (S.meaning space.now) number bytes → at + length bytes ≤ length out.old }
+    ensures { Put (S.meaning space.now) number at result out.old out.new }
 {
     let len = write_plan(space, number, tallies, work, plan);
     put_line(number, &plan[..len], out, at)
@@ -73,9 +73,9 @@ fn measure_lines<S: Space>(
     work: &mut [Due],
     plan: &mut [Node],
 ) -> u128
-    requires prepared { Prepared (meaning space.now) tallies.now (length work.old) (length plan.old) }
-    requires below { any_past (plans (meaning space.now)) numbers.now ≡ false }
-    ensures { (bytes : List ℕ) → AreLines (meaning space.now) numbers.now bytes → result ≡ length bytes }
+    requires prepared { Prepared (S.meaning space.now) tallies.now (length work.old) (length plan.old) }
+    requires below { any_past (plans (S.meaning space.now)) numbers.now ≡ false }
+    ensures { (bytes : List ℕ) → AreLines (S.meaning space.now) numbers.now bytes → result ≡ length bytes }
 {
     let mut total: u128 = 0;
     for number in numbers {
@@ -93,10 +93,10 @@ fn write_lines<S: Space>(
     plan: &mut [Node],
     out: &mut [u8],
 )
-    requires prepared { Prepared (meaning space.now) tallies.now (length work.old) (length plan.old) }
-    requires below { any_past (plans (meaning space.now)) numbers.now ≡ false }
-    requires room { (bytes : List ℕ) → AreLines (meaning space.now) numbers.now bytes → length bytes ≤ length out.old }
-    ensures { (bytes : List ℕ) → AreLines (meaning space.now) numbers.now bytes → out.new ≡ laid 0 bytes out.old }
+    requires prepared { Prepared (S.meaning space.now) tallies.now (length work.old) (length plan.old) }
+    requires below { any_past (plans (S.meaning space.now)) numbers.now ≡ false }
+    requires room { (bytes : List ℕ) → AreLines (S.meaning space.now) numbers.now bytes → length bytes ≤ length out.old }
+    ensures { (bytes : List ℕ) → AreLines (S.meaning space.now) numbers.now bytes → out.new ≡ laid 0 bytes out.old }
 {
     let mut at: usize = 0;
     for number in numbers {
@@ -117,9 +117,9 @@ pub fn report<S: Space>(
     plan: &mut [Node],
     text: &mut [u8],
 ) -> Result<usize, Refusal>
-    ensures answer { Reported (meaning space.now) (first_of (report_checks (meaning space.now) numbers.now (length tallies.old) (length work.old) (length plan.old))) numbers.now result text.old text.new }
-    ensures tallies { tallies.new ≡ after_tally (meaning space.now) tallies.old }
-    ensures plan { Untouched (first_of (write_checks (meaning space.now) (length tallies.old) (length work.old) (length plan.old))) plan.old plan.new }
+    ensures answer { Reported (S.meaning space.now) (first_of (report_checks (S.meaning space.now) numbers.now (length tallies.old) (length work.old) (length plan.old))) numbers.now result text.old text.new }
+    ensures tallies { tallies.new ≡ after_tally (S.meaning space.now) tallies.old }
+    ensures plan { Untouched (first_of (write_checks (S.meaning space.now) (length tallies.old) (length work.old) (length plan.old))) plan.old plan.new }
 {
     let (plans, _) = ready_to_write(space, tallies, work.len(), plan.len())?;
     if any_past_limit(numbers, plans) {
@@ -142,9 +142,9 @@ pub fn line<S: Space>(
     plan: &mut [Node],
     text: &mut [u8],
 ) -> Result<usize, Refusal>
-    ensures answer { Lined (meaning space.now) (first_of (unrank_checks (meaning space.now) number (length tallies.old) (length work.old) (length plan.old))) number result text.old text.new }
-    ensures tallies { tallies.new ≡ after_tally (meaning space.now) tallies.old }
-    ensures plan { Untouched (first_of (write_checks (meaning space.now) (length tallies.old) (length work.old) (length plan.old))) plan.old plan.new }
+    ensures answer { Lined (S.meaning space.now) (first_of (unrank_checks (S.meaning space.now) number (length tallies.old) (length work.old) (length plan.old))) number result text.old text.new }
+    ensures tallies { tallies.new ≡ after_tally (S.meaning space.now) tallies.old }
+    ensures plan { Untouched (first_of (write_checks (S.meaning space.now) (length tallies.old) (length work.old) (length plan.old))) plan.old plan.new }
 {
     report(space, &[number], tallies, work, plan, text)
 }

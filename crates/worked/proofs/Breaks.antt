@@ -1,7 +1,6 @@
 -- A plan with two children has at least three nodes.
-use Rattle.std.proofs.Common.{◌≡◌, ℕ, ◌<◌, List, ◌∷◌, length, Some, Option, sym, ap, ◌∙◌, arith, length-append}
+use Rattle.std.proofs.Common.{◌≡◌, ℕ, ◌<◌, List, ◌∷◌, length, Some, Option, ap, ◌∙◌, arith, length-append}
 use Rattle.spaces.specs.Places.{none_some}
-use Rattle.spaces.specs.declared.space.Alternative.{Alternative}
 use Rattle.spaces.specs.Spaces.{Meaning}
 use Rattle.numbering.proofs.Trees.{head_same}
 use Rattle.numbering.specs.declared.node.Node.{Node}

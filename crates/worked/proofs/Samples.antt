@@ -1,7 +1,7 @@
 -- The plans of the worked examples as trees.
-use Rattle.std.proofs.Common.{ℕ, [], ◌∷◌, Some, refl}
+use Rattle.std.proofs.Common.{ℕ, Some, refl}
 use lib.Count.{ones, count_trailing_zeros}
-use Rattle.spaces.specs.Bushes.{bushes, deposit, scan, split}
+use Rattle.spaces.specs.Bushes.{bushes, deposit}
 use Rattle.spaces.specs.declared.kind.Kind.{Kind}
 use Rattle.spaces.specs.declared.kind.Kind.TheVariants.{HashJoin, IndexScan, MergeJoin, Scan, Sort}
 use Rattle.spaces.specs.declared.order.Order.TheVariants.{Any}

@@ -1,6 +1,6 @@
 -- Worked examples: what the definitions come to on small spaces.
 use Rattle.std.specs.Prelude.{◌≡◌, ℕ, List, [], ◌∷◌, map, Some, None, codes, Option}
-use Rattle.std.specs.List.{range_with_len, AllByRecursion as All}
+use Rattle.std.specs.List.{range_with_len, AllByRecursion}
 use Rattle.spaces.specs.Bushes.{bushes}
 use Rattle.spaces.specs.declared.kind.Kind.{Kind}
 use Rattle.spaces.specs.declared.kind.Kind.TheVariants.{HashJoin, IndexScan, Scan}
@@ -74,4 +74,4 @@ rows =
     ∷ []))))))))))))
 
 abbrev pub WorkedRows : Type 0
-WorkedRows = All Stands rows
+WorkedRows = AllByRecursion Stands rows

@@ -9,10 +9,10 @@ ghost use Rattle.campaigns.specs.Baselines.{expected, is_result, kept_fault};
 ghost use Rattle.campaigns.specs.Calls.{over as laid_over};
 ghost use Rattle.campaigns.specs.Verdicts.{told};
 
-use crate::campaign::running::plan_value;
 use crate::outcome::Outcome;
-use crate::writing::write_listing;
+use crate::writing::write_listing_by;
 use engines::engine::Engine;
+use engines::evaluation::evaluate;
 use numbering::due::Due;
 use numbering::node::Node;
 use prepared::prepared::{Prepared, Search};
@@ -50,6 +50,27 @@ impl<V: Drop> Baseline<V> {
             _ => false,
         }
     }
+}
+
+/// The value of the plan that has the number, or its fault. Its list is left in the first entries of `plan`.
+pub(crate) fn prepared_value<E: Engine>(
+    space: &Prepared,
+    engine: &E,
+    number: u64,
+    work: &mut [Due],
+    plan: &mut [Node],
+    values: &mut [E::Output],
+) -> Result<E::Output, u8>
+    requires below { number < plans_of (table space.now) }
+    requires work { largest (table space.now) ≤ length work.old }
+    requires plan { largest (table space.now) ≤ length plan.old }
+    requires values { largest (table space.now) ≤ length values.old }
+    ensures value { result ≡ value_of_list (E.Engine.rule engine.now) (listing (table space.now) number) }
+    ensures written { plan.new ≡ laid_over (listing (table space.now) number) plan.old }
+{
+    let len = write_listing_by(&Search, space, number, space.tallies(), work, plan);
+    let nodes: &[Node] = plan;
+    evaluate(engine, &nodes[0..len], values)
 }
 
 /// What a plan's value tells beside the baseline's result.
@@ -105,18 +126,9 @@ pub(crate) fn work_out<E: Engine>(
     ensures written { plan.new ≡ laid_over (listing (table space.now) number) plan.old }
 {
     if baseline.kept.is_some() {
-        write_listing(&Search, space, number, space.tallies(), work, plan);
+        write_listing_by(&Search, space, number, space.tallies(), work, plan);
     } else {
-        let value = plan_value(
-            &Search,
-            space,
-            engine,
-            number,
-            space.tallies(),
-            work,
-            plan,
-            values,
-        );
+        let value = prepared_value(space, engine, number, work, plan, values);
         baseline.kept = Some(value);
     }
 }

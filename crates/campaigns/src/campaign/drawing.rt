@@ -7,32 +7,17 @@ ghost use Rattle.numbering.specs.Standing.{Standing};
 ghost use Rattle.campaigns.specs.Calls.{counting, Drew, Next, of_pending, of_ready, passed};
 ghost use Rattle.campaigns.specs.Counting.{one_drawn};
 ghost use Rattle.campaigns.specs.Promises.{EveryHistory};
-ghost use Rattle.campaigns.specs.Refusals.{draw_checks, draw_refusal, first_reason, lent_of};
+ghost use Rattle.campaigns.specs.Refusals.{draw_refusal, lent_of};
 
 use crate::campaign::{Drawn, NotDrawn, Pending, Ready};
 use crate::counts::Counts;
 use crate::refusal::CampaignRefusal;
 use crate::writing::write_listing;
 use numbering::due::Due;
-use numbering::lookup::{Lookup, Walk};
 use numbering::node::Node;
 use numbering::ready::ready_to_write;
 use numbering::tally::Tally;
 use spaces::space::Space;
-
-/// The checks of a campaign of n plans, of which `drawn` are drawn, before it draws from a space of `plans` plans.
-pub(crate) fn drawable(plans: u64, n: u64, drawn: u64) -> Result<(), CampaignRefusal>
-    ensures answer { result ≡ passed (first_reason (draw_checks plans n drawn)) }
-    ensures left { OnOk result ((plans ≡ n) × (drawn ≢ n)) }
-{
-    if plans != n {
-        Err(CampaignRefusal::OtherSpace)
-    } else if drawn == n {
-        Err(CampaignRefusal::AllDrawn)
-    } else {
-        Ok(())
-    }
-}
 
 /// The checks of a draw by a campaign of n plans, of which `drawn` are drawn. Past them the tallies stand.
 fn may_draw<S: Space>(
@@ -43,19 +28,27 @@ fn may_draw<S: Space>(
     work: usize,
     plan: usize,
 ) -> Result<(), CampaignRefusal>
-    ensures answer { result ≡ passed (draw_refusal (meaning space.now) (lent_of (length tallies.old) work plan) n drawn) }
-    ensures tallies { tallies.new ≡ after_tally (meaning space.now) tallies.old }
-    ensures standing { OnOk result (Standing (meaning space.now) tallies.new × (largest (meaning space.now) ≤ work) × (largest (meaning space.now) ≤ plan) × (plans_of (meaning space.now) ≡ n) × (drawn ≢ n)) }
+    ensures answer { result ≡ passed (draw_refusal (S.meaning space.now) (lent_of (length tallies.old) work plan) n drawn) }
+    ensures tallies { tallies.new ≡ after_tally (S.meaning space.now) tallies.old }
+    ensures standing { OnOk result (Standing (S.meaning space.now) tallies.new × (largest (S.meaning space.now) ≤ work) × (largest (S.meaning space.now) ≤ plan) × (plans_of (S.meaning space.now) ≡ n) × (drawn ≢ n)) }
 {
     match ready_to_write(space, tallies, work, plan) {
-        Ok((plans, _)) => drawable(plans, n, drawn),
+        Ok((plans, _)) => {
+            if plans != n {
+                Err(CampaignRefusal::OtherSpace)
+            } else if drawn == n {
+                Err(CampaignRefusal::AllDrawn)
+            } else {
+                Ok(())
+            }
+        }
         Err(refusal) => Err(CampaignRefusal::Call(refusal)),
     }
 }
 
 impl Ready {
     /// The campaign once its next plan is drawn.
-    fn advance(self) -> Pending
+    pub(crate) fn advance(self) -> Pending
         requires { self.counts.drawn < self.n }
         ensures numbers { of_pending result ≡ counting (of_ready self) (one_drawn self.counts) }
         ensures number { result.number ≡ self.next }
@@ -82,23 +75,22 @@ impl Ready {
     }
 
     /// Draws the next plan, where the tallies stand, the buffers are long enough and a plan is left.
-    pub(crate) fn draw_next<S: Space, L: Lookup<S>>(
+    fn draw_next<S: Space>(
         self,
-        lookup: &L,
         space: &S,
         tallies: &[Tally],
         work: &mut [Due],
         plan: &mut [Node],
     ) -> Drawn
-        requires standing { Standing (S.Space.meaning space.now) tallies.now }
-        requires work { largest (S.Space.meaning space.now) ≤ length work.old }
-        requires plan { largest (S.Space.meaning space.now) ≤ length plan.old }
-        requires plans { plans_of (S.Space.meaning space.now) ≡ self.n }
+        requires standing { Standing (S.meaning space.now) tallies.now }
+        requires work { largest (S.meaning space.now) ≤ length work.old }
+        requires plan { largest (S.meaning space.now) ≤ length plan.old }
+        requires plans { plans_of (S.meaning space.now) ≡ self.n }
         requires left { self.counts.drawn ≢ self.n }
-        ensures { Next (S.Space.meaning space.now) self plan.old plan.new result }
+        ensures { Next (S.meaning space.now) self plan.old plan.new result }
     {
         let number = self.next;
-        let len = write_listing(lookup, space, number, tallies, work, plan);
+        let len = write_listing(space, number, tallies, work, plan);
         Drawn {
             pending: self.advance(),
             number,
@@ -117,9 +109,9 @@ impl Ready {
         work: &mut [Due],
         plan: &mut [Node],
     ) -> Result<Drawn, NotDrawn>
-        ensures answer { Drew (meaning space.now) (lent_of (length tallies.old) (length work.old) (length plan.old)) self plan.old plan.new result }
-        ensures tallies { tallies.new ≡ after_tally (meaning space.now) tallies.old }
-        ensures drawn { IfOk result (λ d. Numbers (meaning space.now) (take d.len plan.new) d.number) }
+        ensures answer { Drew (S.meaning space.now) (lent_of (length tallies.old) (length work.old) (length plan.old)) self plan.old plan.new result }
+        ensures tallies { tallies.new ≡ after_tally (S.meaning space.now) tallies.old }
+        ensures drawn { IfOk result (λ d. Numbers (S.meaning space.now) (take d.len plan.new) d.number) }
         ensures histories { EveryHistory }
     {
         match may_draw(
@@ -130,7 +122,7 @@ impl Ready {
             work.len(),
             plan.len(),
         ) {
-            Ok(()) => Ok(self.draw_next(&Walk, space, tallies, work, plan)),
+            Ok(()) => Ok(self.draw_next(space, tallies, work, plan)),
             Err(why) => Err(NotDrawn { ready: self, why }),
         }
     }

@@ -61,8 +61,8 @@ pub fn make<S: Space>(
     baseline: u64,
     tallies: &mut [Tally],
 ) -> Result<Ready, CampaignRefusal>
-    ensures answer { Made (meaning space.now) (length tallies.old) start step baseline result }
-    ensures tallies { tallies.new ≡ after_tally (meaning space.now) tallies.old }
+    ensures answer { Made (S.meaning space.now) (length tallies.old) start step baseline result }
+    ensures tallies { tallies.new ≡ after_tally (S.meaning space.now) tallies.old }
     ensures steps { StepRule }
 {
     match count(space, tallies) {

@@ -7,11 +7,10 @@ ghost use Rattle.prepared.specs.Prepares.{table};
 ghost use Rattle.engines.specs.Values.{value_of_list};
 ghost use Rattle.campaigns.specs.Baselines.{beside, expected, Keeps, RunsBeside};
 ghost use Rattle.campaigns.specs.Calls.{both_over, passed, Runs};
-ghost use Rattle.campaigns.specs.Refusals.{lent_of, run_refusal};
+ghost use Rattle.campaigns.specs.Refusals.{first_reason, lent_of, run_checks, run_refusal};
 ghost use Rattle.campaigns.specs.Verdicts.{by_engine, EveryHistoryWith};
 
-use crate::campaign::baseline::{Baseline, tell_beside, work_out};
-use crate::campaign::running::{plan_value, runnable};
+use crate::campaign::baseline::{Baseline, prepared_value, tell_beside, work_out};
 use crate::campaign::{NotRun, Pending, Ran};
 use crate::outcome::Outcome;
 use crate::refusal::CampaignRefusal;
@@ -19,8 +18,22 @@ use engines::engine::Engine;
 use engines::evaluation::evaluate;
 use numbering::due::Due;
 use numbering::node::Node;
-use prepared::prepared::{Prepared, Search};
+use prepared::prepared::Prepared;
 use spaces::space::Space;
+
+/// The checks of a campaign of n plans before it works out plans of a space that has `plans` of them, the largest of `size` nodes.
+fn runnable(plans: u64, size: u16, values: usize, n: u64) -> Result<(), CampaignRefusal>
+    ensures answer { result ≡ passed (first_reason (run_checks plans size values n)) }
+    ensures room { OnOk result ((size ≤ values) × (plans ≡ n)) }
+{
+    if values < size as usize {
+        Err(CampaignRefusal::ValuesShort)
+    } else if plans != n {
+        Err(CampaignRefusal::OtherSpace)
+    } else {
+        Ok(())
+    }
+}
 
 /// The checks of a run over a prepared space by a campaign of n plans, before any plan is worked out.
 fn may_run_prepared(
@@ -63,8 +76,7 @@ fn compare_beside<E: Engine>(
     if let Some(fault) = baseline.fault() {
         return Err(fault);
     }
-    let tallies = space.tallies();
-    let value = plan_value(&Search, space, engine, number, tallies, work, plan, values);
+    let value = prepared_value(space, engine, number, work, plan, values);
     Ok(tell_beside(engine, baseline, value))
 }
 

@@ -6,10 +6,9 @@ ghost use Rattle.numbering.specs.Refusals.{after_tally, largest, plans as plans_
 ghost use Rattle.numbering.specs.Standing.{Standing};
 ghost use Rattle.engines.specs.Values.{value_of_list};
 ghost use Rattle.campaigns.specs.Calls.{both_over, over as laid_over, passed, run_writes, Runs, Settled};
-ghost use Rattle.campaigns.specs.Refusals.{first_reason, lent_of, run_checks, run_refusal};
+ghost use Rattle.campaigns.specs.Refusals.{lent_of, run_refusal};
 ghost use Rattle.campaigns.specs.Verdicts.{by_engine, EveryHistoryWith};
 
-use crate::campaign::baseline::tell;
 use crate::campaign::{NotRun, Pending, Ran};
 use crate::counts::Counts;
 use crate::outcome::Outcome;
@@ -18,25 +17,10 @@ use crate::writing::write_listing;
 use engines::engine::Engine;
 use engines::evaluation::evaluate;
 use numbering::due::Due;
-use numbering::lookup::{Lookup, Walk};
 use numbering::node::Node;
 use numbering::ready::ready_to_write;
 use numbering::tally::Tally;
 use spaces::space::Space;
-
-/// The checks of a campaign of n plans before it works out plans of a space that has `plans` of them, the largest of `size` nodes.
-pub(crate) fn runnable(plans: u64, size: u16, values: usize, n: u64) -> Result<(), CampaignRefusal>
-    ensures answer { result ≡ passed (first_reason (run_checks plans size values n)) }
-    ensures room { OnOk result ((size ≤ values) × (plans ≡ n)) }
-{
-    if values < size as usize {
-        Err(CampaignRefusal::ValuesShort)
-    } else if plans != n {
-        Err(CampaignRefusal::OtherSpace)
-    } else {
-        Ok(())
-    }
-}
 
 /// The checks of a run by a campaign of n plans, before any plan is worked out. Past them the tallies stand.
 fn may_run<S: Space>(
@@ -47,19 +31,26 @@ fn may_run<S: Space>(
     plan: usize,
     values: usize,
 ) -> Result<(), CampaignRefusal>
-    ensures answer { result ≡ passed (run_refusal (meaning space.now) (lent_of (length tallies.old) work plan) values n) }
-    ensures tallies { tallies.new ≡ after_tally (meaning space.now) tallies.old }
-    ensures standing { OnOk result (Standing (meaning space.now) tallies.new × (largest (meaning space.now) ≤ work) × (largest (meaning space.now) ≤ plan) × (largest (meaning space.now) ≤ values) × (plans_of (meaning space.now) ≡ n)) }
+    ensures answer { result ≡ passed (run_refusal (S.meaning space.now) (lent_of (length tallies.old) work plan) values n) }
+    ensures tallies { tallies.new ≡ after_tally (S.meaning space.now) tallies.old }
+    ensures standing { OnOk result (Standing (S.meaning space.now) tallies.new × (largest (S.meaning space.now) ≤ work) × (largest (S.meaning space.now) ≤ plan) × (largest (S.meaning space.now) ≤ values) × (plans_of (S.meaning space.now) ≡ n)) }
 {
     match ready_to_write(space, tallies, work, plan) {
-        Ok((plans, size)) => runnable(plans, size, values, n),
+        Ok((plans, size)) => {
+            if values < size as usize {
+                Err(CampaignRefusal::ValuesShort)
+            } else if plans != n {
+                Err(CampaignRefusal::OtherSpace)
+            } else {
+                Ok(())
+            }
+        }
         Err(refusal) => Err(CampaignRefusal::Call(refusal)),
     }
 }
 
 /// The value of the plan that has the number, or its fault. Its list is left in the first entries of `plan`.
-pub(crate) fn plan_value<S: Space, L: Lookup<S>, E: Engine>(
-    lookup: &L,
+fn plan_value<S: Space, E: Engine>(
     space: &S,
     engine: &E,
     number: u64,
@@ -76,7 +67,7 @@ pub(crate) fn plan_value<S: Space, L: Lookup<S>, E: Engine>(
     ensures value { result ≡ value_of_list (E.Engine.rule engine.now) (listing (S.Space.meaning space.now) number) }
     ensures written { plan.new ≡ laid_over (listing (S.Space.meaning space.now) number) plan.old }
 {
-    let len = write_listing(lookup, space, number, tallies, work, plan);
+    let len = write_listing(space, number, tallies, work, plan);
     let nodes: &[Node] = plan;
     evaluate(engine, &nodes[0..len], values)
 }
@@ -101,12 +92,20 @@ fn compare<S: Space, E: Engine>(
     ensures told { result ≡ by_engine (E.Engine.rule engine.now) (E.Engine.alike engine.now) (S.Space.meaning space.now) baseline number }
     ensures written { plan.new ≡ both_over result (listing (S.Space.meaning space.now) baseline) (listing (S.Space.meaning space.now) number) plan.old }
 {
-    let expected = match plan_value(&Walk, space, engine, baseline, tallies, work, plan, values) {
+    let expected = match plan_value(space, engine, baseline, tallies, work, plan, values) {
         Ok(value) => value,
         Err(fault) => return Err(fault),
     };
-    let value = plan_value(&Walk, space, engine, number, tallies, work, plan, values);
-    Ok(tell(engine, &expected, value))
+    match plan_value(space, engine, number, tallies, work, plan, values) {
+        Ok(value) => {
+            if engine.same(&expected, &value) {
+                Ok(Outcome::Agreed)
+            } else {
+                Ok(Outcome::Differing)
+            }
+        }
+        Err(fault) => Ok(Outcome::Faulted(fault)),
+    }
 }
 
 impl Pending {

@@ -51,7 +51,7 @@ impl Memo {
         ensures same { OnErr result (self.new ≡ self.old) }
         ensures format { Settled file.now }
     {
-        let memo = Memo::read(self.items.allocator(), file)?;
+        let memo = Memo::read(*self.items.allocator(), file)?;
         *self = memo;
         Ok(())
     }

@@ -14,7 +14,7 @@ use std::alloc::{AllocError, Global};
 impl Listed {
     /// The table of a space.
     pub(crate) fn copy<S: Space>(space: &S, heap: Global) -> Result<Listed, AllocError>
-        ensures { IfOk result (λ l. listing l ≡ meaning space.now) }
+        ensures { IfOk result (λ l. listing l ≡ S.meaning space.now) }
     {
         let goals = space.goals();
         let root = space.root();

@@ -7,8 +7,9 @@ ghost use Rattle.prepared.specs.Prepares.{table};
 
 use crate::prepared::Prepared;
 use crate::seeking::seek;
-use numbering::lookup::{Lookup, walk_before};
+use numbering::lookup::Lookup;
 use numbering::node::Node;
+use numbering::reading::counts_before;
 use numbering::tally::Tally;
 use spaces::space::{Alternative, Space};
 
@@ -48,6 +49,6 @@ impl Lookup<Prepared> for Search {
     }
 
     fn counts_before(&self, space: &Prepared, node: Node, tallies: &[Tally]) -> Option<u64> {
-        walk_before(space, node, tallies)
+        counts_before(space, node, tallies)
     }
 }

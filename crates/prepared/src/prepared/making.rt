@@ -15,7 +15,7 @@ use std::alloc::Global;
 
 /// Prepares a space: the same space, in tables.
 pub fn prepare<S: Space>(space: &S, heap: Global) -> Result<Prepared, PrepareRefusal>
-    ensures { MatchResult result (λ p. Prepares (meaning space.now) (table p)) (λ e. NotPrepared (meaning space.now) e) }
+    ensures { MatchResult result (λ p. Prepares (S.meaning space.now) (table p)) (λ e. NotPrepared (S.meaning space.now) e) }
 {
     if space.goals() == 0 {
         return Err(PrepareRefusal::Count(Refusal::NoGoals));

@@ -9,8 +9,8 @@ ghost use Rattle.prepared.specs.Prepares.{table};
 use crate::prepared::Prepared;
 use crate::prepared::lookup::Search;
 use numbering::due::Due;
+use numbering::lookup::number_by;
 use numbering::node::Node;
-use numbering::reading::number_of;
 use numbering::refusal::Refusal;
 use spaces::space::Space;
 
@@ -28,6 +28,6 @@ impl Prepared {
         if work.len() < size as usize {
             return Err(Refusal::WorkShort);
         }
-        number_of(&Search, self, nodes, self.tallies(), work)
+        number_by(&Search, self, nodes, self.tallies(), work)
     }
 }

@@ -9,9 +9,9 @@ ghost use Rattle.prepared.specs.Prepares.{table};
 use crate::prepared::Prepared;
 use crate::prepared::lookup::Search;
 use numbering::due::Due;
+use numbering::lookup::write_by;
 use numbering::node::Node;
 use numbering::refusal::Refusal;
-use numbering::writing::write_plan;
 use spaces::space::Space;
 
 impl Prepared {
@@ -44,6 +44,6 @@ impl Prepared {
         if number >= plans {
             return Err(Refusal::NoSuchPlan);
         }
-        Ok(write_plan(&Search, self, number, self.tallies(), work, plan))
+        Ok(write_by(&Search, self, number, self.tallies(), work, plan))
     }
 }

@@ -1,4 +1,4 @@
-use Rattle.std.proofs.Common.{◌≡◌, Ok}
+use Rattle.std.proofs.Common.{Ok}
 use Rattle.prepared.specs.Prepares.{table}
 use Rattle.campaigns.specs.Baselines.{Keeps}
 use Rattle.campaigns.specs.Conduct.{Conducted}

@@ -3,12 +3,12 @@ use Rattle.std.proofs.lemmas.Result.{err_from_is_err_and}
 use Rattle.memos.specs.Reading.{read_alone}
 use Rattle.memos.specs.Rules.{among}
 use Rattle.memos.specs.Slices.{begins}
-use Rattle.memos.proofs.Looping.{loop_start, loop-end, loop_full, Turn, turn_falls, stops_by, loop_bad, Loop, turn_again, turn_first, turn_next, turn_within, out_of_memory}
+use Rattle.memos.proofs.Looping.{loop_start, loop_end, loop_full, Turn, turn_falls, stops_by, loop_bad, Loop, turn_again, turn_first, turn_next, turn_within, out_of_memory}
 use Rattle.memos.proofs.load.read_records.Goals.{In_ok-record, After-repeated}
 use Rattle.memos.proofs.load.read_records.Goals as goal
 
 pub loop-at-init : goal.loop-at-init
-loop-at-init c = loop_start _ _ _ _ _ c.requires.1 c.new-items.ensures.items c.new-starts.ensures.items
+loop-at-init c = loop_start _ _ _ _ _ c.requires.from_in_bounds c.new-items.ensures.items c.new-starts.ensures.items
 
 pub returns-then-count-ge-MOST_RECORDS : goal.returns-then-count-ge-MOST_RECORDS
 returns-then-count-ge-MOST_RECORDS c =
@@ -70,4 +70,4 @@ loop-at-preserved c =
     subst (λ its. Loop c.args.file.now c.args.goals c.args.from its (vec_items c.pad.new.starts) c.in_ok-record.next) (sym c.in_ok-push.ensures.items) next
 
 pub returns : goal.returns
-returns c = loop-end _ _ _ _ _ c.loop-at.at c.loop-at.invariant c.loop-at-test.false
+returns c = loop_end _ _ _ _ _ c.loop-at.at c.loop-at.invariant c.loop-at-test.false

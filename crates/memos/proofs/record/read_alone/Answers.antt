@@ -1,5 +1,4 @@
 use Rattle.std.proofs.Common.{Ok, sym, ◌∙◌, arith}
-use Rattle.memos.specs.Rules.{record_of}
 use Rattle.memos.proofs.Alone.{alone_bad, alone_good}
 use Rattle.memos.proofs.record.read_alone.Goals as goal
 

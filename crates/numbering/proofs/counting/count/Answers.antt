@@ -4,8 +4,8 @@ use Rattle.numbering.specs.Tallies.{most_nodes}
 use Rattle.numbering.proofs.Checks as checks
 use Rattle.numbering.proofs.counting.count.Goals as goal
 
-pub slice-copy-out·root : goal.slice-copy-out·root
-slice-copy-out·root g c =
+pub slice_copy_out-root : goal.slice_copy_out-root
+slice_copy_out-root g c =
     let below = (g.met.S.Space.lawful c.args.space.now).root_below in
     omega (arith, below (omega arith))
 

@@ -132,9 +132,9 @@ offset_bounds-work-depth g c =
     let v = (goal.at.offset_bounds-work-depth g c).In-Some in
     omega (arith, (turn_at g v).room, length_stack c.loop-place.depth c.loop-place.work, c.requires.standing.small, c.push_children-depth.ensures.depth)
 
-pub slice-copy-out·due : goal.slice-copy-out·due
-slice-copy-out·due g c =
-    let v = (goal.at.slice-copy-out·due g c).In-Some in
+pub slice_copy_out-due : goal.slice_copy_out-due
+slice_copy_out-due g c =
+    let v = (goal.at.slice_copy_out-due g c).In-Some in
     omega (
       arith,
       (turn_at g v).room,

@@ -37,8 +37,8 @@ offset_bounds-work-depth g c =
     c.loop-depth.depth c.loop-depth.invariant c.loop-depth-test.true in
     omega (arith, deep, c.requires.standing.small)
 
-pub slice-copy-out·due : goal.slice-copy-out·due
-slice-copy-out·due g c = omega (arith, work_room g c)
+pub slice_copy_out-due : goal.slice_copy_out-due
+slice_copy_out-due g c = omega (arith, work_room g c)
 
 pub pick-rest-requires : goal.pick-rest-requires
 pick-rest-requires g c =
@@ -90,7 +90,7 @@ push_children-depth-requires g c =
     omega (arith, room, c.requires.work, c.loop-depth.auto.work, length-set c.args.work.now 0 (due c.root.result c.args.number))
 
 -- the stack after the turn has the children's shares on top
-pushed : (g : given.Over) (c : goal.After-work·1 g) →
+pushed : (g : given.Over) (c : goal.After-work-1 g) →
     let n = count (g.S.Space.meaning c.args.space.now) (left_due c.pick-rest.result.0) in
     stack c.push_children-depth.result c.push_children-depth.new.work
     ≡ children c.pick-rest.result.0 (c.pick-rest.result.1 % n) (c.pick-rest.result.1 / n) (stack (c.loop-depth.depth - 1) c.loop-depth.work)

@@ -13,7 +13,8 @@ returns-in_default g c =
 pub lift-requires : goal.lift-requires
 lift-requires g c =
     let below = c.args.below.now in
-    kept_few (g.S.Space.meaning below) (g.met.S.Space.lawful below) c.args.goal c.args.index c.in-Some.alternative c.kept_at.result c.kept_at.ensures c.in-Some.is
+    let few = kept_few (g.S.Space.meaning below) (g.met.S.Space.lawful below) c.args.goal c.args.index c.in-Some.alternative c.kept_at.result c.kept_at.ensures c.in-Some.is in
+    record { left_bound = few.0; right_bound = few.1 }
 
 pub returns : goal.returns
 returns g c = ap Some c.lift.ensures ∙ sorted_some c.args.goal ((g.S.Space.meaning c.args.below.now).lists c.args.goal) c.args.index _ (sym c.kept_at.ensures ∙ c.in-Some.is)

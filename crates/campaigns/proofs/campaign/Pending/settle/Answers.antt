@@ -11,4 +11,12 @@ invariant_of-result c =
     let drawn : c.args.counts.drawn ≡ k + 1 = omega (arith, c.requires.drawn, s.settled) in
     let next : c.onward.result ≡ walk s.n s.start s.step c.args.counts.drawn =
     c.onward.ensures ∙ ap (λ x. (x + s.step) % s.n) s.chosen ∙ sym (onward s.n s.start s.step k) ∙ ap (walk s.n s.start s.step) (sym drawn) in
-    (s.starts, (s.based, (s.steps, (s.coprime, (next, (omega (arith, c.requires.drawn, s.within), (c.requires.settled, tt)))))))
+    record {
+      starts = s.starts;
+      based = s.based;
+      steps = s.steps;
+      coprime = s.coprime;
+      upcoming = next;
+      within = omega (arith, c.requires.drawn, s.within);
+      settled = c.requires.settled;
+    }

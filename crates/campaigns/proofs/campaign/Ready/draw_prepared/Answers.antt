@@ -25,7 +25,7 @@ returns-in-Ok c =
     let m = table p in
     let checks = draw_refusal m (lent_of m.goals (length a.work.now) (length a.plan.now)) a.self.n a.self.counts.drawn in
     record {
-      answer = (passed_none checks c.in-Ok.ensures.answer, c.draw_next.ensures);
-      drawn = next_numbers m (law_of p) a.self a.plan.now c.draw_next.new.plan c.draw_next.result c.in-Ok.ensures.room.2 c.draw_next.ensures;
+      answer = (passed_none checks c.in-Ok.ensures.answer, c.draw_next_prepared.ensures);
+      drawn = next_numbers m (law_of p) a.self a.plan.now c.draw_next_prepared.new.plan c.draw_next_prepared.result c.in-Ok.ensures.room.2 c.draw_next_prepared.ensures;
       histories = every_history;
     }

@@ -9,4 +9,12 @@ invariant_of-result c =
     let usable = sym c.if-not-usable_step.ensures in
     let first : a.start ≡ walk a.n a.start a.step 0 =
     sym (ap (λ i. (a.start + i) % a.n) (zero-mul a.step) ∙ ap (λ i. i % a.n) (add-zero a.start) ∙ mod-eq_of_lt (omega arith)) in
-    (c.if-start-n.false, (c.if-baseline-n.false, (usable_fits a.n a.step usable, (usable_coprime a.n a.step (omega arith) usable, (first, (omega arith, (refl, tt)))))))
+    record {
+      starts = c.if-start-n.false;
+      based = c.if-baseline-n.false;
+      steps = usable_fits a.n a.step usable;
+      coprime = usable_coprime a.n a.step (omega arith) usable;
+      upcoming = first;
+      within = omega arith;
+      settled = refl;
+    }

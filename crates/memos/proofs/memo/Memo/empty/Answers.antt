@@ -5,4 +5,4 @@ use Rattle.memos.proofs.memo.Memo.empty.Goals as goal
 pub invariant_of-result : goal.invariant_of-result
 invariant_of-result c =
     let e = empty_index _ _ _ _ c.new.ensures.items c.new-2.ensures.items (omega arith) (λ h. omega arith) (λ h. omega arith) in
-    (e.0, (e.1, (∣ e.2 ∣₁, tt)))
+    record { indexed = e.0; headed = e.1; lawful = ∣ e.2 ∣₁ }

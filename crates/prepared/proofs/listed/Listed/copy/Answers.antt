@@ -10,10 +10,11 @@ invariant_of-result g c =
     let law = g.met.S.Space.lawful s in
     let copied = c.in_ok-items.ensures in
     let means = copy_means m law c.goals-goals.result c.root-root.result (vec_items c.in_ok-items.field-0.items) (vec_items c.in_ok-items.field-0.starts)
-    c.goals-goals.ensures c.root-root.ensures copied in (
-      indexed m.lists _ _ _ copied (items_few m law _ _ (vec_items c.in_ok-items.field-0.starts) (omega (arith, c.goals-goals.ensures)) copied),
-      (∣ subst Lawful (sym means) law ∣₁, tt),
-    )
+    c.goals-goals.ensures c.root-root.ensures copied in
+    record {
+      indexed = indexed m.lists _ _ _ copied (items_few m law _ _ (vec_items c.in_ok-items.field-0.starts) (omega (arith, c.goals-goals.ensures)) copied);
+      lawful = ∣ subst Lawful (sym means) law ∣₁;
+    }
 
 pub returns : goal.returns
 returns g c =

@@ -26,8 +26,8 @@ returns-then-work-size c =
       numbering = numbering m (law_of p);
     }
 
-pub number_of-requires : goal.number_of-requires
-number_of-requires c =
+pub number_by-requires : goal.number_by-requires
+number_by-requires c =
     let p = c.args.self.now in
     let size = ap (λ (t : ℕ × ℕ). t.1) c.count-size.ensures.answer in
     record {
@@ -43,10 +43,10 @@ returns c =
     let work = length c.args.work.now in
     let o = first_of (rank_checks m m.goals work) in
     let size = ap (λ (t : ℕ × ℕ). t.1) c.count-size.ensures.answer in
-    let answer = tables.ranked_judged m o list c.number_of.result (rank_none m (vec_items p.tallies) (up_of p) work (omega (arith, size, c.if-work-size.false))) c.number_of.ensures in
+    let answer = tables.ranked_judged m o list c.number_by.result (rank_none m (vec_items p.tallies) (up_of p) work (omega (arith, size, c.if-work-size.false))) c.number_by.ensures in
     record {
       answer = answer;
-      only = λ r other. ranked_only m list o c.number_of.result r answer other;
+      only = λ r other. ranked_only m list o c.number_by.result r answer other;
       counted = counted m (vec_items p.tallies) (up_of p);
       numbering = numbering m (law_of p);
     }

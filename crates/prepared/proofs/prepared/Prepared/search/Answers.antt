@@ -54,7 +54,7 @@ index-requires c =
     omega (arith, within, p.sums.ok.0)
 
 -- the sum that was read
-read : (c : goal.After-row-known·1) → c.index.result.now ≡ get_or (vec_items c.args.self.now.sums) c.seek-place.result 0
+read : (c : goal.After-row_known-1) → c.index.result.now ≡ get_or (vec_items c.args.self.now.sums) c.seek-place.result 0
 read c =
     let p = c.args.self.now in
     let l = p.listed in

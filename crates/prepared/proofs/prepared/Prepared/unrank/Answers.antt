@@ -52,10 +52,10 @@ returns c =
     let plan = c.args.plan.now in
     let o = first_of (unrank_checks m c.args.number m.goals (length c.args.work.now) (length plan)) in
     let past = tables.unrank_past m c.args.number _ _ _ c.in_ok-plans.plans c.in_ok-plans.field-0-1 c.in_ok-plans.ensures.answer c.if-number-plans.false in
-    let answer = tables.unranked_written m o c.args.number c.write_plan.result plan c.write_plan.new.plan past c.write_plan.ensures in
+    let answer = tables.unranked_written m o c.args.number c.write_by.result plan c.write_by.new.plan past c.write_by.ensures in
     record {
       answer = answer;
-      only = unranked_only m law o c.args.number (Ok c.write_plan.result) plan c.write_plan.new.plan answer;
+      only = unranked_only m law o c.args.number (Ok c.write_by.result) plan c.write_by.new.plan answer;
       counted = counted m (vec_items p.tallies) (up_of p);
       numbering = numbering m law;
     }

@@ -10,7 +10,7 @@ pub invariant_of-result : goal.invariant_of-result
 invariant_of-result g c =
     let l = c.in_ok-listed.listed in
     let s = summed l.goals l.root (vec_items l.items) (vec_items l.starts) l.indexed (lawful_held _ l.lawful) (vec_items c.in_ok-sums.sums) c.in_ok-sums.ensures in
-    (∣ c.in_ok-tallies.ensures ∣₁, (∣ s ∣₁, tt))
+    record { standing = ∣ c.in_ok-tallies.ensures ∣₁; summed = ∣ s ∣₁ }
 
 pub returns : goal.returns
 returns g c =

@@ -5,8 +5,8 @@ use Rattle.numbering.proofs.Counts.{count_goal}
 use Rattle.numbering.proofs.Picks.{before_below}
 use Rattle.numbering.proofs.Standings as standings
 use Rattle.numbering.proofs.Standings.{not_yet}
-use Rattle.numbering.proofs.lookup.walk_before.Goals as goal
-use Rattle.numbering.proofs.lookup.walk_before.Goals.{in-Some+else-same, in_default}
+use Rattle.numbering.proofs.reading.counts_before.Goals as goal
+use Rattle.numbering.proofs.reading.counts_before.Goals.{in-Some+else-same, in_default}
 
 pub alternative_count-count-requires : goal.alternative_count-count-requires
 alternative_count-count-requires g c =

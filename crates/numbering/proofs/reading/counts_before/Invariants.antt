@@ -1,7 +1,7 @@
 use Rattle.std.proofs.Common.{◌≡◌, ℕ, ◌<◌, take, Some}
 use Rattle.std.specs.List.{slice_get}
 use Rattle.numbering.specs.Plans.{all_ways, count}
-use Rattle.numbering.proofs.lookup.walk_before.Given as goal
+use Rattle.numbering.proofs.reading.counts_before.Given as goal
 
 abbrev pub invariant-loop-index : goal.invariant-loop-index
 invariant-loop-index g l =

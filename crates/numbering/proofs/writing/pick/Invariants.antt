@@ -1,6 +1,6 @@
 use Rattle.std.proofs.Common.{◌≡◌, ◌+◌, take}
 use Rattle.numbering.specs.Plans.{all_ways, count}
-use Rattle.numbering.proofs.lookup.walk_to.Given as goal
+use Rattle.numbering.proofs.writing.pick.Given as goal
 
 abbrev pub invariant-loop-index : goal.invariant-loop-index
 invariant-loop-index g l =

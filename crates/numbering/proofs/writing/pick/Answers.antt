@@ -4,8 +4,8 @@ use Rattle.spaces.specs.Places.{none_past}
 use Rattle.numbering.proofs.Counts.{count_goal}
 use Rattle.numbering.proofs.Standings as standings
 use Rattle.numbering.specs.Plans.{all_ways, count}
-use Rattle.numbering.proofs.lookup.walk_to.Goals as goal
-use Rattle.numbering.proofs.lookup.walk_to.Goals.{in-Some+else-rest-count, in_default}
+use Rattle.numbering.proofs.writing.pick.Goals as goal
+use Rattle.numbering.proofs.writing.pick.Goals.{in-Some+else-rest-count, in_default}
 
 pub alternative_count-count-requires : goal.alternative_count-count-requires
 alternative_count-count-requires g c =
