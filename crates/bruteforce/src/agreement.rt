@@ -12,29 +12,42 @@ use std::test::Fail;
 
 const MARK: Tally = Tally { count: 77, size: 7 };
 
-fn same_list<S: Space>(rt: &impl Abort, space: &S, table: &Table, goal: u16) {
+/// The list of a goal: one by one, past its end, by the iterator, and in one piece.
+fn same_list<S: Space>(
+    rt: &impl Abort,
+    heap: Global,
+    space: &S,
+    table: &Table,
+    goal: u16,
+) -> Result<(), Fail> {
     let list = list_of(table, goal);
     assert_eq!(rt; space.width(goal) as usize, list.len());
-    for (index, wanted) in list.iter().enumerate() {
-        if index < 1_000_000 {
-            assert_eq!(rt; space.alternative(goal, index as u32), Some(*wanted));
-        }
+    for (index, wanted) in (0..u32::MAX).zip(list.iter()) {
+        assert_eq!(rt; space.alternative(goal, index), Some(*wanted));
     }
     if list.len() < 1_000_000 {
         assert_eq!(rt; space.alternative(goal, list.len() as u32), None);
     }
     assert_eq!(rt; space.alternative(goal, u32::MAX), None);
+    assert_eq!(rt; space.alternatives(goal).eq(list.iter().copied()), true);
+    assert_eq!(rt; space.list(goal, heap)?.as_slice() == list, true);
+    Ok(())
 }
 
-/// The four questions, in and out of range.
-pub fn same_space<S: Space>(rt: &impl Abort, space: &S, table: &Table) {
-    assert_eq!(rt; space.goals() as usize, table.lists.len());
+/// The questions, in and out of range.
+pub fn same_space<S: Space>(
+    rt: &impl Abort,
+    heap: Global,
+    space: &S,
+    table: &Table,
+) -> Result<(), Fail> {
+    assert_eq!(rt; usize::from(space.goals()), table.lists.len());
     assert_eq!(rt; space.root(), table.root);
     for goal in 0..space.goals() {
-        same_list(rt, space, table, goal);
+        same_list(rt, heap, space, table, goal)?;
     }
-    same_list(rt, space, table, space.goals());
-    same_list(rt, space, table, u16::MAX);
+    same_list(rt, heap, space, table, space.goals())?;
+    same_list(rt, heap, space, table, u16::MAX)
 }
 
 /// The tally of every goal against its plans, and the entry past the last against what was there.
@@ -86,6 +99,6 @@ pub fn agrees<S: Space>(
     space: &S,
     table: &Table,
 ) -> Result<bool, Fail> {
-    same_space(rt, space, table);
+    same_space(rt, heap, space, table)?;
     same_count(rt, heap, space, table)
 }

@@ -4,7 +4,7 @@ use crate::agreement::agrees;
 use crate::{layered, table};
 use spaces::bushy::Bushy;
 use spaces::filter::KindFilter;
-use spaces::kind::Kind;
+use spaces::kind::{Kind, NoSuchKind};
 use spaces::mask::KindMask;
 use spaces::order::{Order, OrderLayer};
 use spaces::refusal::MakeRefusal;
@@ -55,10 +55,7 @@ fn layered_bushy_spaces(rt: HostRuntime) -> Result<(), Fail> {
 }
 
 fn refusal_of_bushy(relations: u64, join: Kind) -> Option<MakeRefusal> {
-    match Bushy::new(relations, join) {
-        Ok(_) => None,
-        Err(e) => Some(e),
-    }
+    Bushy::new(relations, join).err()
 }
 
 #[test]
@@ -96,12 +93,12 @@ fn letters_and_numbers(rt: HostRuntime) {
     ];
     for ((letter, kind), number) in b"SIHMLFO".iter().zip(kinds.iter()).zip(0..7u8) {
         assert_eq!(rt; kind.letter(), *letter);
-        assert_eq!(rt; kind.number(), number);
+        assert_eq!(rt; u8::from(*kind), number);
         assert_eq!(rt; Kind::from_letter(*letter), Some(*kind));
-        assert_eq!(rt; Kind::from_number(number), Some(*kind));
+        assert_eq!(rt; Kind::try_from(number), Ok(*kind));
     }
-    assert_eq!(rt; Kind::from_number(7), None);
-    assert_eq!(rt; Kind::from_number(255), None);
+    assert_eq!(rt; Kind::try_from(7), Err(NoSuchKind(7)));
+    assert_eq!(rt; Kind::try_from(255), Err(NoSuchKind(255)));
     assert_eq!(rt; Kind::from_letter(b's'), None);
     assert_eq!(rt; Kind::from_letter(0), None);
 }

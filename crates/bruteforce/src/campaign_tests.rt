@@ -7,7 +7,7 @@ use crate::memo_files::{WORKED, encoded, opened};
 use crate::number_tests::{Buffers, make_buffers};
 use campaigns::campaign::making::make;
 use campaigns::campaign::{Drawn, NotDrawn, NotRun, Pending, Ran, Ready};
-use campaigns::conduct::{Stopped, conduct};
+use campaigns::conduct::conduct;
 use campaigns::counts::Counts;
 use campaigns::refusal::CampaignRefusal;
 use engines::cover::{Cover, Covered};
@@ -19,29 +19,8 @@ use std::alloc::Global;
 use std::process::Abort;
 use std::test::Fail;
 
-/// How a conducted campaign ended.
-fn end_of(stopped: Stopped) -> (Counts, CampaignRefusal) {
-    match stopped {
-        Stopped::AtDraw(refused) => {
-            let NotDrawn { ready, why } = refused;
-            (ready.close(), why)
-        }
-        Stopped::AtRun(refused) => {
-            let NotRun { pending, why } = refused;
-            let counts = pending.counts();
-            pending.skip().close();
-            (counts, why)
-        }
-    }
-}
-
 fn share_a_divisor(a: u64, b: u64) -> bool {
-    for d in 2..a.saturating_add(1) {
-        if d != 0 && a % d == 0 && b % d == 0 {
-            return true;
-        }
-    }
-    false
+    (2..=a).any(|d| d != 0 && a % d == 0 && b % d == 0)
 }
 
 /// One whole campaign with room for so many finds, conducted over the rows engine.
@@ -79,7 +58,7 @@ fn whole(
                 &mut finds,
             ) {
                 Ok(state) => (state.close(), CampaignRefusal::OtherSpace),
-                Err(stopped) => end_of(stopped),
+                Err(stopped) => stopped.close(),
             };
             assert_eq!(rt; share_a_divisor(step, n), false);
             assert_eq!(rt; (end.0, end.1.number()), (wanted.counts, wanted.refusal));
@@ -252,13 +231,9 @@ fn first_pending(memo: &Memo, b: &mut Buffers) -> Option<Pending> {
 fn refused_runs(rt: HostRuntime) -> Result<(), Fail> {
     let heap = rt.alloc();
     let memo = opened(&rt, heap, &WORKED);
-    let blank = Covered {
-        relations: 0,
-        sorted: false,
-    };
     let mut enough = make_buffers(heap, 3, 3, 3)?;
-    let mut few_values = vec![in heap; blank; 2]?;
-    let mut values = vec![in heap; blank; 3]?;
+    let mut few_values = vec![in heap; Covered::default(); 2]?;
+    let mut values = vec![in heap; Covered::default(); 3]?;
     for (tallies, work, plan, room, wanted) in [
         (3usize, 3usize, 3usize, 2usize, 26u8),
         (2, 3, 3, 3, 21),
@@ -275,11 +250,7 @@ fn refused_runs(rt: HostRuntime) -> Result<(), Fail> {
         } else {
             run_once(&memo, pending, &mut b, &mut values, &mut [])
         };
-        let number = match why {
-            Some(refusal) => refusal.number(),
-            None => 0,
-        };
-        assert_eq!(rt; number, wanted);
+        assert_eq!(rt; why.map_or(0, |refusal| refusal.number()), wanted);
         assert_eq!(rt; (counts.drawn, counts.agreed), (1, (wanted == 0) as u64));
     }
     Ok(())

@@ -2,6 +2,7 @@
 
 use crate::memo_files::{opened, put_header, put_record};
 use crate::number_tests::make_buffers;
+use crate::table::scan;
 use memos::memo::Memo;
 use numbering::counting::count;
 use numbering::ranking::rank;
@@ -13,17 +14,6 @@ use spaces::order::{Order, OrderLayer};
 use spaces::space::{Alternative, Space};
 use std::alloc::Global;
 use std::test::Fail;
-
-const NONE: Tally = Tally { count: 0, size: 0 };
-
-fn scan(tag: u16) -> Alternative {
-    Alternative {
-        kind: Kind::Scan,
-        tag,
-        left: 0,
-        right: 0,
-    }
-}
 
 fn join(left: u16, right: u16) -> Alternative {
     Alternative {
@@ -55,7 +45,7 @@ fn powers(heap: Global, one_more: bool) -> Result<Vec<u8>, Fail> {
 #[test]
 fn most_plans(rt: HostRuntime) -> Result<(), Fail> {
     let heap = rt.alloc();
-    let mut tallies = vec![in heap; NONE; 6]?;
+    let mut tallies = vec![in heap; Tally::default(); 6]?;
     let exact = opened(&rt, heap, &powers(heap, false)?);
     assert_eq!(rt;
         count(&exact, &mut tallies),
@@ -106,7 +96,7 @@ fn chain(heap: Global, goals: u16) -> Result<Vec<u8>, Fail> {
 #[test]
 fn most_nodes(rt: HostRuntime) -> Result<(), Fail> {
     let heap = rt.alloc();
-    let mut tallies = vec![in heap; NONE; 4096]?;
+    let mut tallies = vec![in heap; Tally::default(); 4096]?;
     assert_eq!(rt;
         count(&opened(&rt, heap, &chain(heap, 1024)?), &mut tallies),
         Ok((1, 1024))
@@ -164,7 +154,7 @@ fn largest_plan(rt: HostRuntime) -> Result<(), Fail> {
 #[test]
 fn most_goals(rt: HostRuntime) -> Result<(), Fail> {
     let heap = rt.alloc();
-    let mut tallies = vec![in heap; NONE; 4096]?;
+    let mut tallies = vec![in heap; Tally::default(); 4096]?;
     let mut file = Vec::new(heap);
     put_header(&mut file, 2048, 0)?;
     put_record(&mut file, Some(0), scan(0))?;

@@ -12,13 +12,7 @@ pub const ROWS: [u64; 2] = [6, 7];
 fn node_rows(node: Node, left: u64, right: u64) -> Result<u64, u8> {
     let tag = node.alternative.tag;
     let rows = match node.alternative.kind {
-        Kind::Scan | Kind::IndexScan => {
-            if (tag as usize) < ROWS.len() {
-                ROWS[tag as usize]
-            } else {
-                return Err(1);
-            }
-        }
+        Kind::Scan | Kind::IndexScan => { *ROWS.get(usize::from(tag)).ok_or(1)? }
         Kind::HashJoin | Kind::MergeJoin | Kind::NestedLoops => left.saturating_mul(right),
         Kind::Filter => left / (tag as u64).saturating_add(1).max(1),
         Kind::Sort => left,
@@ -96,15 +90,8 @@ pub fn ending_of(
     baseline: u64,
     room: usize,
 ) -> Result<Ending, AllocError> {
-    let counts = Counts {
-        drawn: 0,
-        agreed: 0,
-        differing: 0,
-        faulted: 0,
-        skipped: 0,
-    };
     let mut ending = Ending {
-        counts,
+        counts: Counts::default(),
         finds: Vec::new(heap),
         refusal: 28,
     };

@@ -9,7 +9,8 @@ use std::alloc::{AllocError, Global};
 /// More plans than this and the space is not enumerated.
 const MANY: usize = 3000;
 
-fn children(kind: Kind) -> u8 {
+/// How many children an operator of a kind has.
+pub fn children(kind: Kind) -> u8 {
     match kind {
         Kind::Scan | Kind::IndexScan => 0,
         Kind::Filter | Kind::Sort => 1,
@@ -56,10 +57,9 @@ fn due<'a>(
     if !has {
         return nothing;
     }
-    if (goal as usize) < plans.len() {
-        &plans[goal as usize]
-    } else {
-        &[]
+    match plans.get(usize::from(goal)) {
+        Some(found) => found,
+        None => &[],
     }
 }
 
@@ -91,12 +91,8 @@ fn goal_plans(
 /// The plans of every goal, or none where a goal has too many.
 pub fn all_plans(heap: Global, table: &Table) -> Result<Option<Vec<Vec<Vec<Node>>>>, AllocError> {
     let mut plans: Vec<Vec<Vec<Node>>> = Vec::new(heap);
-    for list in table.lists.iter() {
-        let goal = plans.len();
-        if goal > 4096 {
-            return Ok(None);
-        }
-        let Some(found) = goal_plans(heap, goal as u16, list, &plans)? else {
+    for (goal, list) in (0..=4096u16).zip(table.lists.iter()) {
+        let Some(found) = goal_plans(heap, goal, list, &plans)? else {
             return Ok(None);
         };
         plans.push(found)?;
@@ -106,9 +102,5 @@ pub fn all_plans(heap: Global, table: &Table) -> Result<Option<Vec<Vec<Vec<Node>
 
 /// The length of the longest of some plans.
 pub fn longest(plans: &[Vec<Node>]) -> usize {
-    let mut most = 0;
-    for plan in plans {
-        most = most.max(plan.len());
-    }
-    most
+    plans.iter().map(|plan| plan.len()).max().unwrap_or(0)
 }

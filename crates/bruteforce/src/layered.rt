@@ -9,12 +9,11 @@ use std::alloc::{AllocError, Global};
 pub fn only(heap: Global, table: &Table, letters: &[Kind]) -> Result<Table, AllocError> {
     let mut lists = Vec::new(heap);
     for below in table.lists.iter() {
-        let mut list = Vec::new(heap);
-        for alternative in below.iter() {
-            if letters.contains(&alternative.kind) {
-                list.push(*alternative)?;
-            }
-        }
+        let list = below
+            .iter()
+            .copied()
+            .filter(|alternative| letters.contains(&alternative.kind))
+            .collect(heap)?;
         lists.push(list)?;
     }
     Ok(Table {
@@ -65,14 +64,14 @@ fn both_lists(
     goal: u16,
     below: &[Alternative],
 ) -> Result<(Vec<Alternative>, Vec<Alternative>), AllocError> {
-    let mut any = Vec::new(heap);
-    let mut ordered = Vec::new(heap);
-    for alternative in below {
-        any.push(in_any_order(*alternative))?;
-        if let Some(lifted) = sorted(*alternative) {
-            ordered.push(lifted)?;
-        }
-    }
+    let any = below
+        .iter()
+        .map(|alternative| in_any_order(*alternative))
+        .collect(heap)?;
+    let mut ordered: Vec<Alternative> = below
+        .iter()
+        .filter_map(|alternative| sorted(*alternative))
+        .collect(heap)?;
     ordered.push(Alternative {
         kind: Kind::Sort,
         tag: 0,
@@ -88,12 +87,10 @@ pub fn order(heap: Global, table: &Table, wish: bool) -> Result<Table, AllocErro
     if table.lists.len() == 0 || table.lists.len() > 2048 {
         return Ok(Table { root: 0, lists });
     }
-    let mut goal: u16 = 0;
-    for below in table.lists.iter() {
+    for (goal, below) in (0..2048u16).zip(table.lists.iter()) {
         let (any, ordered) = both_lists(heap, goal, below)?;
         lists.push(any)?;
         lists.push(ordered)?;
-        goal = goal.saturating_add(1);
     }
     Ok(Table {
         root: doubled(table.root, wish),

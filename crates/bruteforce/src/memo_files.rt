@@ -1,5 +1,6 @@
 //! Memo files put together byte by byte.
 
+use crate::enumeration::children;
 use crate::table::Table;
 use memos::memo::Memo;
 use memos::refusal::OpenRefusal;
@@ -27,14 +28,6 @@ fn number_of(kind: Kind) -> u8 {
     }
 }
 
-fn children(kind: Kind) -> u8 {
-    match kind {
-        Kind::Scan | Kind::IndexScan => 0,
-        Kind::Filter | Kind::Sort => 1,
-        Kind::HashJoin | Kind::MergeJoin | Kind::NestedLoops => 2,
-    }
-}
-
 fn put_two(file: &mut Vec<u8>, n: u16) -> Result<(), AllocError> {
     file.push((n % 256) as u8)?;
     file.push((n / 256) as u8)?;
@@ -46,11 +39,11 @@ pub fn put_record(file: &mut Vec<u8>, goal: Option<u16>, a: Alternative) -> Resu
     let kind = number_of(a.kind);
     let arity = children(a.kind);
     let mut bits = 0u8;
-    bits |= goal.is_some() as u8;
-    bits |= (kind != 0) as u8 * 2;
-    bits |= (a.tag != 0) as u8 * 4;
-    bits |= (arity >= 1) as u8 * 8;
-    bits |= (arity == 2) as u8 * 16;
+    bits |= u8::from(goal.is_some());
+    bits |= u8::from(kind != 0) * 2;
+    bits |= u8::from(a.tag != 0) * 4;
+    bits |= u8::from(arity >= 1) * 8;
+    bits |= u8::from(arity == 2) * 16;
     file.push(bits)?;
     if let Some(g) = goal {
         put_two(file, g)?;
@@ -85,8 +78,7 @@ pub fn put_header(file: &mut Vec<u8>, goals: u16, root: u16) -> Result<(), Alloc
 fn put_goal(file: &mut Vec<u8>, goal: u16, list: &[Alternative]) -> Result<(), AllocError> {
     let mut first = Some(goal);
     for alternative in list {
-        put_record(file, first, *alternative)?;
-        first = None;
+        put_record(file, first.take(), *alternative)?;
     }
     Ok(())
 }
@@ -95,10 +87,8 @@ fn put_goal(file: &mut Vec<u8>, goal: u16, list: &[Alternative]) -> Result<(), A
 pub fn encoded(heap: Global, table: &Table) -> Result<Vec<u8>, AllocError> {
     let mut file = Vec::new(heap);
     put_header(&mut file, table.lists.len().min(4096) as u16, table.root)?;
-    let mut goal: u16 = 0;
-    for list in table.lists.iter() {
+    for (goal, list) in (0..4096u16).zip(table.lists.iter()) {
         put_goal(&mut file, goal, list)?;
-        goal = goal.saturating_add(1);
     }
     Ok(file)
 }

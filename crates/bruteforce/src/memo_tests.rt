@@ -4,7 +4,7 @@ use crate::agreement::{agrees, same_space};
 use crate::generated::{Dice, any_table};
 use crate::layered;
 use crate::memo_files::{WORKED, encoded, opened, put_header, put_record};
-use crate::table::Table;
+use crate::table::{Table, scan};
 use memos::memo::Memo;
 use memos::refusal::OpenRefusal;
 use spaces::filter::KindFilter;
@@ -191,7 +191,7 @@ fn damaged_headers(rt: HostRuntime) -> Result<(), Fail> {
     refused(&rt, &mut memo, &long, OpenRefusal::LongFile);
     let edge = vec![in heap; 0u8; 60_000]?;
     refused(&rt, &mut memo, &edge, OpenRefusal::HeaderBits);
-    same_space(&rt, &memo, &worked_table(heap)?);
+    same_space(&rt, heap, &memo, &worked_table(heap)?)?;
     assert_eq!(rt; memo.open(&[0x01, 0x00, 0x10]), Ok(()));
     assert_eq!(rt; memo.goals(), 4096);
     assert_eq!(rt; memo.open(&[0x03, 0x03, 0x00, 0x01, 0x00]), Ok(()));
@@ -311,7 +311,7 @@ fn damaged_records(rt: HostRuntime) -> Result<(), Fail> {
         &[1, 3, 0, 0x0F, 1, 0, 5, 1, 0, 9, 9],
         OpenRefusal::ChildOrder(3),
     );
-    same_space(&rt, &memo, &worked_table(heap)?);
+    same_space(&rt, heap, &memo, &worked_table(heap)?)?;
     Ok(())
 }
 
@@ -319,17 +319,8 @@ fn damaged_records(rt: HostRuntime) -> Result<(), Fail> {
 fn scans(heap: Global, records: u16) -> Result<Vec<u8>, Fail> {
     let mut file = Vec::new(heap);
     put_header(&mut file, 1, 0)?;
-    let mut goal = Some(0);
-    for tag in 0..records {
-        put_record(
-            &mut file,
-            goal,
-            Alternative {
-                tag: tag.saturating_add(1),
-                ..SCAN
-            },
-        )?;
-        goal = None;
+    for tag in 1..=records {
+        put_record(&mut file, (tag == 1).then_some(0), scan(tag))?;
     }
     Ok(file)
 }
@@ -365,13 +356,13 @@ fn cut_at_each_byte(rt: HostRuntime) {
         } else if ends.contains(&cut) {
             assert_eq!(rt; memo.open(file), Ok(()));
         } else {
-            let mut at = 0;
-            for end in ends {
-                if end < cut {
-                    at = end;
-                }
-            }
-            refused(&rt, &mut memo, file, OpenRefusal::RecordEnds(at));
+            let at = ends.iter().copied().filter(|end| *end < cut).max();
+            refused(
+                &rt,
+                &mut memo,
+                file,
+                OpenRefusal::RecordEnds(at.unwrap_or(0)),
+            );
         }
     }
 }

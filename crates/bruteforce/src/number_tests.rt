@@ -47,24 +47,17 @@ pub fn make_buffers(
     plan: usize,
 ) -> Result<Buffers, AllocError> {
     Ok(Buffers {
-        tallies: vec![in heap; Tally { count: 0, size: 0 }; goals]?,
-        work: vec![in heap; Due { goal: 0, number: 0 }; work]?,
+        tallies: vec![in heap; Tally::default(); goals]?,
+        work: vec![in heap; Due::default(); work]?,
         plan: vec![in heap; NO_NODE; plan]?,
     })
 }
 
 fn common(a: &[Node], b: &[Node]) -> usize {
-    let mut n: usize = 0;
-    for (x, y) in a.iter().zip(b.iter()) {
-        if *x != *y {
-            return n;
-        }
-        n = n.saturating_add(1);
-    }
-    n
+    a.iter().zip(b.iter()).take_while(|(x, y)| *x == *y).count()
 }
 
-/// What stands at a place of a list against the goal due there.
+/// What stands at a place of a list against the goal due there: none where both end.
 fn misfit(due: Option<u16>, node: Option<Node>, place: usize) -> Option<Refusal> {
     match (due, node) {
         (Some(goal), Some(x)) => {
@@ -80,90 +73,84 @@ fn misfit(due: Option<u16>, node: Option<Node>, place: usize) -> Option<Refusal>
     }
 }
 
-/// Why a list is no plan, by comparing it with every plan: the longest common beginning, and the goal that follows it there.
-fn wanted(list: &[Node], plans: &[Vec<Node>], root: u16) -> Option<Refusal> {
+/// The number of a list, or why it is no plan, by comparing it with every plan: the longest common beginning, and the goal that follows it there.
+fn wanted(list: &[Node], plans: &[Vec<Node>], root: u16) -> Result<u64, Refusal> {
     let mut place = 0;
     let mut due = Some(root);
     for plan in plans {
         let same = common(list, plan);
         if same >= place {
             place = same;
-            due = if same < plan.len() {
-                Some(plan[same].goal)
-            } else {
-                None
-            };
+            due = plan.get(same).map(|node| node.goal);
         }
     }
-    let node = if place < list.len() {
-        Some(list[place])
-    } else {
-        None
-    };
-    misfit(due, node, place)
+    match misfit(due, list.get(place).copied(), place) {
+        Some(refusal) => Err(refusal),
+        None => Ok(index_of(list, plans)),
+    }
 }
 
-/// The list with one of its nodes changed in one way of three.
-fn changed(heap: Global, list: &[Node], at: usize, way: u8) -> Result<Vec<Node>, AllocError> {
-    let mut copy = list.to_vec(heap)?;
-    if at < copy.len() {
-        let node = copy[at];
-        let a = node.alternative;
-        copy[at] = match way {
-            0 => Node {
-                goal: node.goal ^ 1,
-                alternative: a,
-            },
-            1 => Node {
-                goal: node.goal,
-                alternative: Alternative {
-                    tag: a.tag ^ 1,
-                    ..a
-                },
-            },
-            _ => Node {
-                goal: node.goal,
-                alternative: Alternative {
-                    left: a.right,
-                    right: a.left,
-                    ..a
-                },
-            },
-        };
-    }
-    Ok(copy)
+/// The number of a list among the plans, as far as it is one of them.
+fn index_of(list: &[Node], plans: &[Vec<Node>]) -> u64 {
+    let index = plans.iter().position(|plan| plan.as_slice() == list);
+    index.unwrap_or(0) as u64
 }
 
 fn ranks_as<S: Space>(
     rt: &impl Abort,
     space: &S,
     list: &[Node],
-    refusal: Option<Refusal>,
-    number: u64,
+    wanted: Result<u64, Refusal>,
     b: &mut Buffers,
-) -> Result<(), Fail> {
-    match refusal {
-        Some(e) => {
-            assert_eq!(rt; rank(space, list, &mut b.tallies, &mut b.work), Err(e));
-            Ok(())
-        },
-        None => {
-            assert_eq!(rt; rank(space, list, &mut b.tallies, &mut b.work), Ok(number));
-            Ok(())
-        },
+) {
+    assert_eq!(rt; rank(space, list, &mut b.tallies, &mut b.work), wanted);
+}
+
+/// The list with one of its nodes changed.
+fn changed<F: FnOnce(Node) -> Node>(
+    heap: Global,
+    list: &[Node],
+    at: usize,
+    change: F,
+) -> Result<Vec<Node>, AllocError>
+    requires { F.IsAlwaysCallable change }
+{
+    let mut copy = list.to_vec(heap)?;
+    if let Some(node) = copy.get_mut(at) {
+        *node = change(*node);
+    }
+    Ok(copy)
+}
+
+/// A node with another goal, another tag, or its children swapped.
+fn with_goal(node: Node) -> Node {
+    Node {
+        goal: node.goal ^ 1,
+        ..node
     }
 }
 
-/// The number of a list among the plans, as far as it is one of them.
-fn index_of(list: &[Node], plans: &[Vec<Node>]) -> u64 {
-    let mut index: u64 = 0;
-    for plan in plans {
-        if plan.as_slice() == list {
-            return index;
-        }
-        index = index.saturating_add(1);
+fn with_tag(node: Node) -> Node {
+    let alternative = Alternative {
+        tag: node.alternative.tag ^ 1,
+        ..node.alternative
+    };
+    Node {
+        alternative,
+        ..node
     }
-    0
+}
+
+fn swapped(node: Node) -> Node {
+    let alternative = Alternative {
+        left: node.alternative.right,
+        right: node.alternative.left,
+        ..node.alternative
+    };
+    Node {
+        alternative,
+        ..node
+    }
 }
 
 /// Every beginning of a plan, the plan with a node more, and the plan with one node changed.
@@ -175,37 +162,22 @@ fn lists_near<S: Space>(
     plans: &[Vec<Node>],
     b: &mut Buffers,
 ) -> Result<(), Fail> {
+    let root = space.root();
     for at in 0..plan.len() {
-        ranks_as(
-            rt,
-            space,
-            &plan[0..at],
-            wanted(&plan[0..at], plans, space.root()),
-            0,
-            b,
-        )?;
-        for way in 0..3u8 {
-            let list = changed(heap, plan, at, way)?;
-            ranks_as(
-                rt,
-                space,
-                &list,
-                wanted(&list, plans, space.root()),
-                index_of(&list, plans),
-                b,
-            )?;
+        let beginning = &plan[0..at];
+        ranks_as(rt, space, beginning, wanted(beginning, plans, root), b);
+        for list in [
+            changed(heap, plan, at, with_goal)?,
+            changed(heap, plan, at, with_tag)?,
+            changed(heap, plan, at, swapped)?,
+        ] {
+            ranks_as(rt, space, &list, wanted(&list, plans, root), b);
         }
     }
     let mut more = plan.to_vec(heap)?;
     more.push(NO_NODE)?;
-    ranks_as(
-        rt,
-        space,
-        &more,
-        Some(Refusal::NodesFollow(plan.len())),
-        0,
-        b,
-    )
+    ranks_as(rt, space, &more, Err(Refusal::NodesFollow(plan.len())), b);
+    Ok(())
 }
 
 /// Numbers past the last, and buffers one entry short.
@@ -261,8 +233,8 @@ fn numbers_agree<S: Space>(
     let plans = &all[root];
     let z = longest(plans);
     let mut b = make_buffers(heap, all.len(), z, z.saturating_add(1))?;
-    let mut number: u64 = 0;
-    for plan in plans.iter() {
+    let n = plans.len() as u64;
+    for (number, plan) in (0..n).zip(plans.iter()) {
         assert_eq!(rt;
             unrank(space, number, &mut b.tallies, &mut b.work, &mut b.plan),
             Ok(plan.len())
@@ -271,10 +243,9 @@ fn numbers_agree<S: Space>(
         assert_eq!(rt; b.plan.last().copied(), Some(NO_NODE));
         assert_eq!(rt; rank(space, plan, &mut b.tallies, &mut b.work), Ok(number));
         lists_near(rt, heap, space, plan, plans, &mut b)?;
-        number = number.saturating_add(1);
     }
-    ranks_as(rt, space, &[], wanted(&[], plans, space.root()), 0, &mut b)?;
-    past_and_short(rt, heap, space, number, z, &mut b)?;
+    ranks_as(rt, space, &[], wanted(&[], plans, space.root()), &mut b);
+    past_and_short(rt, heap, space, n, z, &mut b)?;
     Ok(true)
 }
 

@@ -99,23 +99,18 @@ fn read_back(rt: HostRuntime) -> Result<(), Fail> {
     let heap = rt.alloc();
     let space = opened(&rt, heap, &WORKED);
     let mut b = make_buffers(heap, 3, 3, 3)?;
-    let mut number: u64 = 0;
-    for text in TEXTS {
+    for (number, text) in (0..6u64).zip(TEXTS.iter()) {
         let nodes = read_plan(heap, text)?;
         assert_eq!(rt;
             rank(&space, &nodes, &mut b.tallies, &mut b.work),
             Ok(number)
         );
-        number = number.saturating_add(1);
     }
     Ok(())
 }
 
 fn error_of(heap: std::alloc::Global, text: &[u8]) -> Option<TextError> {
-    match read_plan(heap, text) {
-        Ok(_) => None,
-        Err(e) => Some(e),
-    }
+    read_plan(heap, text).err()
 }
 
 #[test]

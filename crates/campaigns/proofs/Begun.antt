@@ -1,5 +1,5 @@
 -- A campaign begun with as many plans as the space has is made.
-use Rattle.std.proofs.Common.{◌≡◌, ℕ, Some, None, Ok, Err, Option, Result, refl, ap, ◌∙◌, subst, arith}
+use Rattle.std.proofs.Common.{◌≡◌, ℕ, None, Ok, Err, Option, Result, ap, ◌∙◌, subst, arith}
 use Rattle.spaces.specs.Spaces.{Meaning}
 use Rattle.numbering.specs.declared.refusal.Refusal.{Refusal}
 use Rattle.numbering.specs.Refusals.{answered, count_checks, first_of, largest, plans}
@@ -9,8 +9,7 @@ use Rattle.campaigns.specs.Calls.{Begun, Made}
 use Rattle.campaigns.specs.Refusals.{make_checks, space_first}
 
 answered_ok : (o : Option Refusal) (x y : ℕ × ℕ) → Ok x ≡ answered o y → (o ≡ None) × (x ≡ y)
-answered_ok None x y h = (refl, cc)
-answered_ok (Some e) x y h = let z : ◌≡◌ {A = ℕ} 0 1 = cc in absurd (omega arith)
+answered_ok o x y h = grind arith
 
 module _ (m : Meaning) (tallies start step baseline : ℕ) (passed : first_of (count_checks m tallies) ≡ None) where
   by_passed : (r : Result Ready CampaignRefusal) → Begun (plans m) start step baseline r → Made m tallies start step baseline r

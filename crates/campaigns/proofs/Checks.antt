@@ -1,6 +1,6 @@
 -- What the tables of refusals say of a quiet space.
-use Rattle.std.proofs.Common.{◌≡◌, ℕ, ◌<◌, ◌≤◌, Bool, true, false, cond, not, eqb, ltb, ◌⊎◌, [], ◌∷◌, Some, None, Ok, Err, Option, Result, sym, refl, ap, ◌∙◌, inl, inr, ⊎_elim, arith}
-use Rattle.std.proofs.lemmas.Bool.{cases_lt, eq-eqb, eqb-true, le-ltb, lt-ltb, ltb-true, ne_eqb}
+use Rattle.std.proofs.Common.{◌≡◌, ℕ, ◌<◌, ◌≤◌, Bool, true, false, cond, not, eqb, ltb, ◌⊎◌, [], ◌∷◌, Some, None, Ok, Err, Option, Result, sym, inl, inr, ⊎_elim, arith}
+use Rattle.std.proofs.lemmas.Bool.{both_ways, cases_lt, eq-eqb, eqb-true, le-ltb, lt-ltb, ltb-true, ne_eqb}
 use Rattle.spaces.specs.Spaces.{Meaning}
 use Rattle.numbering.specs.declared.refusal.Refusal.{Refusal}
 use Rattle.numbering.specs.declared.refusal.Refusal.TheVariants.{NoGoals, PlanShort, PlansTooLarge, TalliesShort, TooManyPlans, WorkShort}
@@ -8,7 +8,7 @@ use Rattle.numbering.specs.Ranks.{write_checks}
 use Rattle.numbering.specs.Refusals.{first_of, largest, plans}
 use Rattle.numbering.specs.Tallies.{most_nodes, over}
 use Rattle.campaigns.specs.declared.outcome.Outcome.{Outcome}
-use Rattle.campaigns.specs.declared.outcome.Outcome.TheVariants.{Agreed, Differing, Faulted}
+use Rattle.campaigns.specs.declared.outcome.Outcome.TheVariants.{Differing}
 use Rattle.campaigns.specs.declared.refusal.CampaignRefusal.{CampaignRefusal}
 use Rattle.campaigns.specs.declared.refusal.CampaignRefusal.TheVariants.{AllDrawn, FindsShort, OtherSpace, ValuesShort}
 use Rattle.campaigns.specs.Calls.{ruled}
@@ -22,24 +22,10 @@ six a b c d e f =
     first_of ((a, NoGoals) ∷ ((b, TalliesShort) ∷ ((c, TooManyPlans) ∷ ((d, PlansTooLarge) ∷ ((e, WorkShort) ∷ ((f, PlanShort) ∷ []))))))
 
 passed_or_short : (a b c d e f : Bool) → a ≡ false → c ≡ false → d ≡ false → (six a b c d e f ≡ None) ⊎ ((b ≡ true) ⊎ ((e ≡ true) ⊎ (f ≡ true)))
-passed_or_short false false false false false false p q r = inl refl
-passed_or_short false false false false false true p q r = inr (inr (inr refl))
-passed_or_short false false false false true f p q r = inr (inr (inl refl))
-passed_or_short false true false false e f p q r = inr (inl refl)
-passed_or_short true b c d e f p q r = let z : ◌≡◌ {A = ℕ} 0 1 = cc in absurd (omega arith)
-passed_or_short false b true d e f p q r = let z : ◌≡◌ {A = ℕ} 0 1 = cc in absurd (omega arith)
-passed_or_short false b false true e f p q r = let z : ◌≡◌ {A = ℕ} 0 1 = cc in absurd (omega arith)
+passed_or_short a b c d e f p q r = grind arith
 
 none_passed : (a b c d e f : Bool) → six a b c d e f ≡ None → (b ≡ true) ⊎ ((e ≡ true) ⊎ (f ≡ true)) → ⊥
-none_passed true b c d e f h s = let z : ◌≡◌ {A = ℕ} 0 1 = cc in omega arith
-none_passed false true c d e f h s = let z : ◌≡◌ {A = ℕ} 0 1 = cc in omega arith
-none_passed false false true d e f h s = let z : ◌≡◌ {A = ℕ} 0 1 = cc in omega arith
-none_passed false false false true e f h s = let z : ◌≡◌ {A = ℕ} 0 1 = cc in omega arith
-none_passed false false false false true f h s = let z : ◌≡◌ {A = ℕ} 0 1 = cc in omega arith
-none_passed false false false false false true h s = let z : ◌≡◌ {A = ℕ} 0 1 = cc in omega arith
-none_passed false false false false false false h (inl x) = let z : ◌≡◌ {A = ℕ} 0 1 = cc in omega arith
-none_passed false false false false false false h (inr (inl x)) = let z : ◌≡◌ {A = ℕ} 0 1 = cc in omega arith
-none_passed false false false false false false h (inr (inr x)) = let z : ◌≡◌ {A = ℕ} 0 1 = cc in omega arith
+none_passed a b c d e f h s = grind arith
 
 abbrev space_checks : Meaning → Lent → Option Refusal
 space_checks m lent = first_of (write_checks m lent.tallies lent.work lent.plan)
@@ -72,22 +58,13 @@ abbrev drawing : Option Refusal → Bool → Bool → Option CampaignRefusal
 drawing o same all = space_first o ((not same, OtherSpace) ∷ ((all, AllDrawn) ∷ []))
 
 drawing_passed : (o : Option Refusal) (same all : Bool) → drawing o same all ≡ None → (o ≡ None) × (all ≡ false)
-drawing_passed (Some e) same all h = let z : ◌≡◌ {A = ℕ} 0 1 = cc in absurd (omega arith)
-drawing_passed None true false h = (refl, refl)
-drawing_passed None true true h = let z : ◌≡◌ {A = ℕ} 0 1 = cc in absurd (omega arith)
-drawing_passed None false all h = let z : ◌≡◌ {A = ℕ} 0 1 = cc in absurd (omega arith)
+drawing_passed o same all h = grind arith
 
 drawing_refused : (o : Option Refusal) (same all : Bool) (e : CampaignRefusal) → o ≡ None → same ≡ true → drawing o same all ≡ Some e → all ≡ true
-drawing_refused (Some x) same all e p q h = let z : ◌≡◌ {A = ℕ} 0 1 = cc in absurd (omega arith)
-drawing_refused None true true e p q h = refl
-drawing_refused None true false e p q h = let z : ◌≡◌ {A = ℕ} 0 1 = cc in absurd (omega arith)
-drawing_refused None false all e p q h = let z : ◌≡◌ {A = ℕ} 0 1 = cc in absurd (omega arith)
+drawing_refused o same all e p q h = grind arith
 
 drawing_all : (o : Option Refusal) (same all : Bool) → drawing o same all ≡ Some AllDrawn → all ≡ true
-drawing_all (Some x) same all h = let z : ◌≡◌ {A = ℕ} 0 1 = cc in absurd (omega arith)
-drawing_all None true true h = refl
-drawing_all None true false h = let z : ◌≡◌ {A = ℕ} 0 1 = cc in absurd (omega arith)
-drawing_all None false all h = let z : ◌≡◌ {A = ℕ} 0 1 = cc in absurd (omega arith)
+drawing_all o same all h = grind arith
 
 module _ (m : Meaning) (lent : Lent) (n drawn : ℕ) where
   pub refused_all : draw_refusal m lent n drawn ≡ Some AllDrawn → drawn ≡ n
@@ -98,9 +75,7 @@ module _ (m : Meaning) (lent : Lent) (n drawn : ℕ) where
 
   pub accepted_more : draw_refusal m lent n drawn ≡ None → drawn ≡ n → ⊥
   accepted_more h e =
-      let f : eqb drawn n ≡ false = (drawing_passed (space_checks m lent) (eqb (plans m) n) (eqb drawn n) h).1 in
-      let t : eqb drawn n ≡ true = eq-eqb drawn n e in
-      let z : ◌≡◌ {A = ℕ} 0 1 = cc in omega arith
+      both_ways (eqb drawn n) (drawing_passed (space_checks m lent) (eqb (plans m) n) (eqb drawn n) h).1 (eq-eqb drawn n e)
 
   pub refused_done : (e : CampaignRefusal) → n ≡ plans m → space_checks m lent ≡ None → draw_refusal m lent n drawn ≡ Some e → drawn ≡ n
   refused_done e same p h =
@@ -112,38 +87,22 @@ abbrev running : Option Refusal → Bool → Bool → Option CampaignRefusal
 running o few same = space_first o ((few, ValuesShort) ∷ ((not same, OtherSpace) ∷ []))
 
 running_passed : (o : Option Refusal) (few same : Bool) → running o few same ≡ None → (o ≡ None) × (few ≡ false)
-running_passed (Some e) few same h = let z : ◌≡◌ {A = ℕ} 0 1 = cc in absurd (omega arith)
-running_passed None true same h = let z : ◌≡◌ {A = ℕ} 0 1 = cc in absurd (omega arith)
-running_passed None false same h = (refl, refl)
+running_passed o few same h = grind arith
 
 running_none : (o : Option Refusal) (few same : Bool) → o ≡ None → few ≡ false → same ≡ true → running o few same ≡ None
-running_none (Some e) few same p q r = let z : ◌≡◌ {A = ℕ} 0 1 = cc in absurd (omega arith)
-running_none None true same p q r = let z : ◌≡◌ {A = ℕ} 0 1 = cc in absurd (omega arith)
-running_none None false true p q r = refl
-running_none None false false p q r = let z : ◌≡◌ {A = ℕ} 0 1 = cc in absurd (omega arith)
-
-has_entry : (b : Bool) → ◌≡◌ {A = Result Outcome CampaignRefusal} (cond b (Ok Differing) (Err FindsShort)) (Ok Differing) → b ≡ true
-has_entry true h = refl
-has_entry false h = let z : ◌≡◌ {A = ℕ} 0 1 = cc in absurd (omega arith)
+running_none o few same p q r = grind arith
 
 pub ruled_differing : (o : Option CampaignRefusal) (told : Result Outcome ℕ) (d room : ℕ) → ruled o told d room ≡ Ok Differing → (o ≡ None) × (d < room) × (told ≡ Ok Differing)
-ruled_differing (Some e) told d room h = let z : ◌≡◌ {A = ℕ} 0 1 = cc in absurd (omega arith)
-ruled_differing None (Err f) d room h = let z : ◌≡◌ {A = ℕ} 0 1 = cc in absurd (omega arith)
-ruled_differing None (Ok Agreed) d room h = let z : ◌≡◌ {A = ℕ} 0 1 = cc in absurd (omega arith)
-ruled_differing None (Ok (Faulted f)) d room h = let z : ◌≡◌ {A = ℕ} 0 1 = cc in absurd (omega arith)
-ruled_differing None (Ok Differing) d room h = (refl, ltb-true d room (has_entry (ltb d room) h), refl)
+ruled_differing o told d room h = grind arith
 
 differing_ruled : (o : Option CampaignRefusal) (told : Result Outcome ℕ) (d room : ℕ) → o ≡ None → d < room → told ≡ Ok Differing → ruled o told d room ≡ Ok Differing
-differing_ruled o told d room p lt q =
-    ap (λ x. ruled x told d room) p ∙ ap (λ x. ruled None x d room) q ∙ ap (λ b. cond b (Ok Differing) (Err FindsShort)) (lt-ltb d room lt)
+differing_ruled o told d room p lt q = grind arith
 
 module _ (m : Meaning) (q : Quiet m) (lent : Lent) (values n d room : ℕ) (told : Result Outcome ℕ) (same : n ≡ plans m) where
   long : run_refusal m lent values n ≡ None → RunShort m lent values → ⊥
   long h (inl s) = writes_long m lent (running_passed (space_checks m lent) (ltb values (largest m)) (eqb (plans m) n) h).0 s
   long h (inr lt) =
-      let f : ltb values (largest m) ≡ false = (running_passed (space_checks m lent) (ltb values (largest m)) (eqb (plans m) n) h).1 in
-      let t : ltb values (largest m) ≡ true = lt-ltb values (largest m) lt in
-      let z : ◌≡◌ {A = ℕ} 0 1 = cc in omega arith
+      both_ways (ltb values (largest m)) (running_passed (space_checks m lent) (ltb values (largest m)) (eqb (plans m) n) h).1 (lt-ltb values (largest m) lt)
 
   none_short : (RunShort m lent values → ⊥) → run_refusal m lent values n ≡ None
   none_short enough =

@@ -9,8 +9,7 @@ use Rattle.campaigns.specs.declared.campaign.Drawn.{Drawn}
 use Rattle.campaigns.specs.declared.campaign.Ready.{Ready}
 use Rattle.campaigns.specs.Calls.{Next}
 use Rattle.campaigns.specs.Walks.{walk}
-use Rattle.campaigns.proofs.Listed.{listing_numbers}
-use Rattle.campaigns.proofs.Pasts.{drawn_list}
+use Rattle.campaigns.proofs.Listed.{drawn_list, listing_numbers}
 
 pub next_numbers : (m : Meaning) → Lawful m → (s : Ready) (old new : List Node) (d : Drawn) → plans m ≡ s.n → Next m s old new d → Numbers m (take d.len new) d.number
 next_numbers m law s old new d same e =

@@ -1,5 +1,8 @@
 -- Histories go on, one after the other.
-use Rattle.std.proofs.Common.{◌≡◌, ℕ, ◌+◌, ◌≤◌, ◌⊎◌, List, [], ◌∷◌, ◌++◌, length, take, Ok, Err, Result, sym, refl, ap, ◌∙◌, inl, inr, append_assoc, arith, length-append}
+use Rattle.std.proofs.Common.{◌≡◌, ℕ, ◌+◌, ◌<◌, ◌⊎◌, List, [], ◌∷◌, ◌++◌, length, take, Ok, Err, Result, sym, refl, ap, ◌∙◌, inl, inr, append_assoc, arith, length-append}
+use mathlib.Core.Path.{subst⁻¹}
+use Rattle.std.proofs.lemmas.Result.{err_from_is_err_and}
+use Rattle.std.specs.Result.{IsErrAnd}
 use Rattle.spaces.specs.Spaces.{Meaning}
 use Rattle.numbering.specs.declared.node.Node.{Node}
 use Rattle.campaigns.specs.declared.campaign.Drawn.{Drawn}
@@ -35,6 +38,10 @@ turns_append : {news log : Log} → Turns news → Turns log → Turns (news ++ 
 turns_append none t = t
 turns_append (turn x list o s) t = turn x list o (turns_append s t)
 
+-- what the exit of a `?` hands back
+told_err : (r : Result Ready Stopped) (e : Stopped) → IsErrAnd r (λ x. x ≡ e) → r ≡ Err e
+told_err r e is = let y = err_from_is_err_and r is in y.1 ∙ ap Err y.2
+
 module _ (m : Meaning) (verdict : Verdict) where
   -- some calls, and then others
   on : {s t : Ready ⊎ Pending} {f g : List ℕ} {older : Log} {u : Ready ⊎ Pending} {h : List ℕ} {newer : Log} → Steps m verdict s f t g older → Steps m verdict t g u h newer → Steps m verdict s f u h (newer ++ older)
@@ -64,14 +71,21 @@ module _ (m : Meaning) (verdict : Verdict) where
       let s = q.2 in
       (q.0 ++ p.0, on p.1 q.1, (s.0 ++ p.0, s.1, s.2, ap (λ l. l ++ p.0) s.3, turns_append s.4 p.2, omega (arith, many_append s.0 p.0, p.3, s.5)))
 
-  -- stopped before the last turn
-  pub stops_early : (many limit : ℕ) (c : Ready) (f g : List ℕ) (e : Stopped) → many ≤ limit → Conducted m verdict many c f g (Err e) → Conducted m verdict limit c f g (Err e)
-  stops_early many limit c f g (AtDraw e) le p = let s = p.2 in (p.0, p.1, (s.0, s.1, s.2, omega (arith, s.3)))
-  stops_early many limit c f g (AtRun e) le p = let s = p.2 in (p.0, p.1, (s.0, s.1, s.2, s.3, s.4, omega (arith, s.5)))
+  -- some turns, and then a stop at the next one, which was not the last asked for
+  pub stops : (many limit : ℕ) (c d : Ready) (f g h : List ℕ) (e : Stopped) (r : Result Ready Stopped) → many < limit
+      → Conducted m verdict many c f g (Ok d) → Conducted m verdict 1 d g h (Err e) → IsErrAnd r (λ x. x ≡ e) → Conducted m verdict limit c f h r
+  stops many limit c d f g h e r le p q is =
+      subst⁻¹ (Conducted m verdict limit c f h) (told_err r e is) (early e (goes_on many (many + 1) c d f g h (Err e) refl p q))
+    where
+      early : (e : Stopped) → Conducted m verdict (many + 1) c f h (Err e) → Conducted m verdict limit c f h (Err e)
+      early (AtDraw e) p = let s = p.2 in (p.0, p.1, (s.0, s.1, s.2, omega (arith, s.3)))
+      early (AtRun e) p = let s = p.2 in (p.0, p.1, (s.0, s.1, s.2, s.3, s.4, omega (arith, s.5)))
 
   module _ (lent : Lent) (old new : List Node) (c : Ready) (f : List ℕ) where
-    pub draw_stops : (d : NotDrawn) → Drew m lent c old new (Err d) → Conducted m verdict 1 c f f (Err (AtDraw d))
-    draw_stops d h = (no_draw d.why ∷ [], draw_refused lent old new c d f [] still h, ([], refl, none, omega arith))
+    pub draw_stops : (d : NotDrawn) (r : Result Ready Stopped) → IsErrAnd r (λ e. e ≡ AtDraw d) → Drew m lent c old new (Err d) → Conducted m verdict 1 c f f r
+    draw_stops d r is h =
+        subst⁻¹ (Conducted m verdict 1 c f f) (told_err r (AtDraw d) is)
+        (no_draw d.why ∷ [], draw_refused lent old new c d f [] still h, ([], refl, none, omega arith))
 
     module _ (d : Drawn) (drew : Drew m lent c old new (Ok d)) (lent' : Lent) (values : ℕ) (g : List ℕ) where
       abbrev drawn : Log
@@ -84,6 +98,7 @@ module _ (m : Meaning) (verdict : Verdict) where
       one_turn r h =
           (a_run r.outcome ∷ drawn, runs lent' values d.pending r f g drawn once_drawn h, turn d.number (take d.len new) r.outcome none, refl)
 
-      pub run_stops : (r : NotRun) → Runs verdict m lent' values d.pending f g (Err r) → Conducted m verdict 1 c f g (Err (AtRun r))
-      run_stops r h =
-          (no_run r.why ∷ drawn, run_refused lent' values d.pending r f g drawn once_drawn h, ([], d.number, take d.len new, refl, none, omega arith))
+      pub run_stops : (n : NotRun) (r : Result Ready Stopped) → IsErrAnd r (λ e. e ≡ AtRun n) → Runs verdict m lent' values d.pending f g (Err n) → Conducted m verdict 1 c f g r
+      run_stops n r is h =
+          subst⁻¹ (Conducted m verdict 1 c f g) (told_err r (AtRun n) is)
+          (no_run n.why ∷ drawn, run_refused lent' values d.pending n f g drawn once_drawn h, ([], d.number, take d.len new, refl, none, omega arith))

@@ -92,7 +92,7 @@ module _ (m : Meaning) (law : Lawful m) (quiet : Quiet m) (log : Log) {start ste
   draw_exactly : (c : Ready) → At m start step baseline first (of_ready c) finds log → 0 < plans m
       → (lent : Lent) (old new : List Node) (r : Result Drawn NotDrawn) → Drew m lent c old new r → Exactly (is_err r ≡ true) (Short m lent ⊎ IsAllDrawn m log)
   draw_exactly c i some lent old new (Ok d) h = (
-    λ (e : false ≡ true). let z : ◌≡◌ {A = ℕ} 0 1 = cc in absurd (omega arith),
+    λ (e : false ≡ true). grind arith,
     ⊎_elim
         (λ (short : Short m lent). absurd (accepted_long m lent c.n c.counts.drawn h.0 short))
         (λ (all : IsAllDrawn m log). absurd (accepted_more m lent c.n c.counts.drawn h.0 (drawn_all (inl c) i some all ∙ sym i.n_is))),
@@ -131,7 +131,7 @@ module _ (m : Meaning) (law : Lawful m) (quiet : Quiet m) (log : Log) {start ste
         (λ o. r.0 (h.0 ∙ ap Ok o), λ q. let e = r.1 q in cc (e, h.0))
     run_exactly p i last lent values finds' (Err d) h =
         let r = ruling_exactly p i last lent values in
-        (λ o. absurd o, λ q. let e = r.1 q in let f = h.0 in let z : ◌≡◌ {A = ℕ} 0 1 = cc in omega arith)
+        (λ o. absurd o, λ q. let e = r.1 q in let f = h.0 in grind arith)
 
     tells : (s : Ready ⊎ Pending) → At m start step baseline first (of s) finds log → Last s log → TellsDiffering verdict Differ m baseline s finds log
     tells (inl c) i last = tt
@@ -144,16 +144,16 @@ event_same e = cc
 module _ (m : Meaning) (law : Lawful m) (quiet : Quiet m) (verdict : Verdict) (steady : Steady verdict) where
   module _ (start step baseline tallies : ℕ) (first : List ℕ) (ready : Ready) (begun : Made m tallies start step baseline (Ok ready)) where
     whole : {s : Ready ⊎ Pending} {finds : List ℕ} {log : Log} → Steps m verdict (inl ready) first s finds log → Finished log → IsAllDrawn m log
-    whole still f = let e = f.1 in let z : ◌≡◌ {A = ℕ} 0 1 = cc in absurd (omega arith)
-    whole (draws lent old new c d finds log before h) f = let e = event_same f.1 in let z : ◌≡◌ {A = ℕ} 0 1 = cc in absurd (omega arith)
+    whole still f = let e = f.1 in grind arith
+    whole (draws lent old new c d finds log before h) f = let e = event_same f.1 in grind arith
     whole (draw_refused lent old new c d finds log before h) f =
         let e = event_same f.1 in
         let why : d.why ≡ AllDrawn = cc in
         let i = (past m verdict steady start step baseline tallies first ready begun before).0 in
         all_drawn m law quiet log (inl c) i (omega (arith, c.starts, i.n_is)) (refused_all m lent c.n c.counts.drawn (h.0 ∙ ap Some why) ∙ i.n_is)
-    whole (runs lent values p d finds finds' log before h) f = let e = event_same f.1 in let z : ◌≡◌ {A = ℕ} 0 1 = cc in absurd (omega arith)
-    whole (run_refused lent values p d finds finds' log before h) f = let e = event_same f.1 in let z : ◌≡◌ {A = ℕ} 0 1 = cc in absurd (omega arith)
-    whole (skips p c finds log before h) f = let e = event_same f.1 in let z : ◌≡◌ {A = ℕ} 0 1 = cc in absurd (omega arith)
+    whole (runs lent values p d finds finds' log before h) f = let e = event_same f.1 in grind arith
+    whole (run_refused lent values p d finds finds' log before h) f = let e = event_same f.1 in grind arith
+    whole (skips p c finds log before h) f = let e = event_same f.1 in grind arith
 
 balance : (s : Ready ⊎ Pending) → (told_counts s).drawn ≡ settled (told_counts s) + waiting s
 balance (inl c) = omega (arith, c.settled)

@@ -1,5 +1,4 @@
 pub mod Begun
-pub mod Beside
 pub mod Checks
 pub mod Drawings
 pub mod Euclid

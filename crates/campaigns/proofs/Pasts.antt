@@ -3,7 +3,7 @@ use Rattle.std.proofs.Common.{◌≡◌, ℕ, ◌+◌, ◌*◌, ◌%◌, ◌<◌
 use mathlib.Core.Path.{subst⁻¹}
 use native.Mathlib.Decide.{dec_lt}
 use Rattle.std.proofs.ByRecursion.{All-push, All-weaker}
-use Rattle.std.proofs.lemmas.List.{drop-drop, drop-set-lt, take_at, take_more_set}
+use Rattle.std.proofs.lemmas.List.{drop-drop, drop-set-lt, take_more_set}
 use Rattle.std.specs.List.{AllByRecursion, slice_get}
 use Rattle.spaces.specs.Spaces.{Apart, Meaning}
 use Rattle.numbering.specs.declared.node.Node.{Node}
@@ -22,6 +22,7 @@ use Rattle.campaigns.specs.Promises.{Steady}
 use Rattle.campaigns.specs.Refusals.{Lent, run_refusal}
 use Rattle.campaigns.specs.Walks.{walk}
 use Rattle.campaigns.proofs.Checks.{accepted_more, ruled_differing}
+use Rattle.campaigns.proofs.Listed.{drawn_list}
 use Rattle.campaigns.proofs.Pushes.{apart_push, nth_new, nth_old}
 use Rattle.campaigns.proofs.Walks.{Tours, tour}
 
@@ -110,62 +111,38 @@ module _ {m : Meaning} {start step baseline : ℕ} {first : List ℕ} {s : Numbe
   later j le =
       All-weaker (Earlier (plans m) start step (settled s.counts)) (Earlier (plans m) start step j) (λ x p. (p.0, omega (arith, p.1), p.2)) fs i.early
 
-  at_skipped : Inv m start step baseline first (counting s (one_skipped s.counts)) finds ds fs (one_skipped cs)
-  at_skipped = record {
+  -- the same counts but for those of plans that are settled and not noted
+  abbrev settling : ℕ → ℕ → ℕ → Counts
+  settling agreed faulted skipped = record { drawn = s.counts.drawn; agreed = agreed; differing = s.counts.differing; faulted = faulted; skipped = skipped }
+
+  at_settled : (agreed faulted skipped : ℕ) (cs' : Counts) → settling agreed faulted skipped ≡ cs' → settled s.counts ≤ settled (settling agreed faulted skipped)
+      → Inv m start step baseline first (counting s (settling agreed faulted skipped)) finds ds fs cs'
+  at_settled agreed faulted skipped cs' is more = record {
     n_is = i.n_is;
     start_is = i.start_is;
     step_is = i.step_is;
     base_is = i.base_is;
     tours = i.tours;
-    counts_is = ap one_skipped i.counts_is;
+    counts_is = is;
     within = i.within;
     long = i.long;
     drawn_is = i.drawn_is;
     found_long = i.found_long;
     found = i.found;
     beyond = i.beyond;
-    early = later (settled (one_skipped s.counts)) (omega arith);
+    early = later (settled (settling agreed faulted skipped)) more;
     once = i.once;
     never = i.never;
   }
+
+  at_skipped : Inv m start step baseline first (counting s (one_skipped s.counts)) finds ds fs (one_skipped cs)
+  at_skipped = at_settled s.counts.agreed s.counts.faulted (s.counts.skipped + 1) (one_skipped cs) (ap one_skipped i.counts_is) (omega arith)
 
   at_agreed : Inv m start step baseline first (counting s (one_ran Agreed s.counts)) finds ds fs (one_ran Agreed cs)
-  at_agreed = record {
-    n_is = i.n_is;
-    start_is = i.start_is;
-    step_is = i.step_is;
-    base_is = i.base_is;
-    tours = i.tours;
-    counts_is = ap (one_ran Agreed) i.counts_is;
-    within = i.within;
-    long = i.long;
-    drawn_is = i.drawn_is;
-    found_long = i.found_long;
-    found = i.found;
-    beyond = i.beyond;
-    early = later (settled (one_ran Agreed s.counts)) (omega arith);
-    once = i.once;
-    never = i.never;
-  }
+  at_agreed = at_settled (s.counts.agreed + 1) s.counts.faulted s.counts.skipped (one_ran Agreed cs) (ap (one_ran Agreed) i.counts_is) (omega arith)
 
   at_faulted : (f : ℕ) → Inv m start step baseline first (counting s (one_ran (Faulted f) s.counts)) finds ds fs (one_ran (Faulted f) cs)
-  at_faulted f = record {
-    n_is = i.n_is;
-    start_is = i.start_is;
-    step_is = i.step_is;
-    base_is = i.base_is;
-    tours = i.tours;
-    counts_is = ap (one_ran (Faulted f)) i.counts_is;
-    within = i.within;
-    long = i.long;
-    drawn_is = i.drawn_is;
-    found_long = i.found_long;
-    found = i.found;
-    beyond = i.beyond;
-    early = later (settled (one_ran (Faulted f) s.counts)) (omega arith);
-    once = i.once;
-    never = i.never;
-  }
+  at_faulted f = at_settled s.counts.agreed (s.counts.faulted + 1) s.counts.skipped (one_ran (Faulted f) cs) (ap (one_ran (Faulted f)) i.counts_is) (omega arith)
 
   at_differing : (number x : ℕ) → s.counts.differing < length finds → (x ≡ baseline → ⊥) → number ≡ x → x ≡ walk (plans m) start step (settled s.counts) → settled s.counts < plans m
       → Inv m start step baseline first (counting s (one_ran Differing s.counts)) (set finds s.counts.differing number) ds (fs ++ (x ∷ [])) (one_ran Differing cs)
@@ -208,10 +185,6 @@ At m start step baseline first s finds log = Inv m start step baseline first s f
 
 below_by : (a b : ℕ) → a ≤ b → (a ≡ b → ⊥) → a < b
 below_by a b le differ = elim (dec_lt a b) [ yes h ↦ h | no h ↦ absurd (differ (omega arith)) ]
-
--- the list that a draw left in the plan buffer
-pub drawn_list : (m : Meaning) (x len : ℕ) (old new : List Node) → len ≡ length (listing m x) → new ≡ listing m x ++ drop (length (listing m x)) old → take len new ≡ listing m x
-drawn_list m x len old new long is = ap (take len) is ∙ take_at (listing m x) (drop (length (listing m x)) old) len (sym long)
 
 module _ {m : Meaning} {start step baseline : ℕ} {first finds : List ℕ} (log : Log) (p : Pending) (i : At m start step baseline first (of_pending p) finds log) (last : p.number ≡ latest log) where
   -- the pending number stands at the end of the walk so far

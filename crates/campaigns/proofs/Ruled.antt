@@ -1,43 +1,32 @@
--- What a run answers and writes, from its checks and what the two plans tell.
-use Rattle.std.proofs.Common.{◌≡◌, ℕ, List, length, Some, None, Ok, Err, Result, sym, ap, ◌∙◌}
+-- What a run answers, writes and keeps where a check refuses it.
+use Rattle.std.proofs.Common.{◌≡◌, ℕ, Bool, List, length, Some, Err, Option, Result, sym, refl, ap}
 use Rattle.spaces.specs.Spaces.{Meaning}
 use Rattle.numbering.specs.declared.node.Node.{Node}
 use Rattle.numbering.specs.Listings.{listing}
+use Rattle.engines.specs.Values.{Rule, value_of_list}
 use Rattle.campaigns.specs.declared.campaign.NotRun.{NotRun}
 use Rattle.campaigns.specs.declared.campaign.Pending.{Pending}
-use Rattle.campaigns.specs.declared.campaign.Ran.{Ran}
-use Rattle.campaigns.specs.declared.outcome.Outcome.{Outcome}
-use Rattle.campaigns.specs.declared.refusal.CampaignRefusal.{CampaignRefusal}
-use Rattle.campaigns.specs.declared.refusal.CampaignRefusal.TheVariants.{BaselineFaults}
-use Rattle.campaigns.specs.Calls.{Runs, Settled, Verdict, both_over, concluded, ruled, ruling, run_over, run_writes}
+use Rattle.campaigns.specs.Baselines.{RunsBeside, beside, kept_after}
+use Rattle.campaigns.specs.Calls.{Runs, Verdict, ruled, run_over, run_writes}
 use Rattle.campaigns.specs.Refusals.{Lent, run_refusal}
+use Rattle.campaigns.specs.Verdicts.{by_engine}
 
-module _ (verdict : Verdict) (m : Meaning) (lent : Lent) (values : ℕ) (s : Pending) where
-  -- a check refuses
-  module _ (e : CampaignRefusal) (refused : run_refusal m lent values s.n ≡ Some e) where
-    pub ruling_refused : (room : ℕ) → ruling verdict m lent values room s ≡ Err e
-    ruling_refused room = ap (λ o. ruled o (verdict s.baseline s.number) s.counts.differing room) refused
+module _ (m : Meaning) (lent : Lent) (values : ℕ) (s : Pending) (d : NotRun) (refused : run_refusal m lent values s.n ≡ Some d.why) where
+  pub writes_refused : (verdict : Verdict) (buffer : List Node) → buffer ≡ run_writes verdict m lent values s buffer
+  writes_refused verdict buffer =
+      sym (ap (λ o. run_over o (verdict s.baseline s.number) (listing m s.baseline) (listing m s.number) buffer) refused)
 
-    pub writes_refused : (buffer : List Node) → buffer ≡ run_writes verdict m lent values s buffer
-    writes_refused buffer =
-        sym (ap (λ o. run_over o (verdict s.baseline s.number) (listing m s.baseline) (listing m s.number) buffer) refused)
+  runs_refused : d.pending ≡ s → (verdict : Verdict) (finds : List ℕ) → Runs verdict m lent values s finds finds (Err d)
+  runs_refused same verdict finds =
+      (ap (λ o. ruled o (verdict s.baseline s.number) s.counts.differing (length finds)) refused, same, refl)
 
-  -- the checks pass, and the two plans tell t
-  module _ (passed : run_refusal m lent values s.n ≡ None) (t : Result Outcome ℕ) (told : t ≡ verdict s.baseline s.number) where
-    ruling_told : (room : ℕ) → ruling verdict m lent values room s ≡ concluded t s.counts.differing room
-    ruling_told room =
-        ap (λ o. ruled o (verdict s.baseline s.number) s.counts.differing room) passed ∙ ap (λ r. concluded r s.counts.differing room) (sym told)
-
-    pub writes_told : (old new : List Node) → new ≡ both_over t (listing m s.baseline) (listing m s.number) old → new ≡ run_writes verdict m lent values s old
-    writes_told old new is =
-        is
-        ∙ ap (λ r. both_over r (listing m s.baseline) (listing m s.number) old) told
-        ∙ sym (ap (λ o. run_over o (verdict s.baseline s.number) (listing m s.baseline) (listing m s.number) old) passed)
-
-  pub runs_settled : (o : Outcome) (old new : List ℕ) (r : Result Ran NotRun) → run_refusal m lent values s.n ≡ None → Ok o ≡ verdict s.baseline s.number
-      → Settled o s old new r → Runs verdict m lent values s old new r
-  runs_settled o old new (Ok d) passed told h = (ruling_told passed (Ok o) told (length old) ∙ h.0, h.1, h.2)
-  runs_settled o old new (Err d) passed told h = (ruling_told passed (Ok o) told (length old) ∙ h.0, h.1, h.2)
-
-  pub ruling_fault : (f room : ℕ) → run_refusal m lent values s.n ≡ None → Err f ≡ verdict s.baseline s.number → ruling verdict m lent values room s ≡ Err (BaselineFaults f)
-  ruling_fault f room passed told = ruling_told passed (Err f) told room
+  pub beside_refused : {V : Type 0} (rule : Rule V) (alike : V → V → Bool) (kept : Option (Result V ℕ)) (finds : List ℕ) (plan : List Node) → d.pending ≡ s
+      → RunsBeside rule alike m lent values s kept kept finds finds plan plan (Err d)
+  beside_refused rule alike kept finds plan same = record {
+    answer = runs_refused same (beside kept rule alike m) finds;
+    written = writes_refused (beside kept rule alike m) plan;
+    keeping = sym (ap (λ o. kept_after o kept (value_of_list rule (listing m s.baseline))) refused);
+    same = λ h. runs_refused same (by_engine rule alike m) finds;
+    same_written = λ h. writes_refused (by_engine rule alike m) plan;
+    keeps = λ h. h;
+  }

@@ -1,49 +1,24 @@
 -- Common divisors, tried one by one.
-use Rattle.std.proofs.Common.{◌≡◌, ℕ, zero, suc, ◌%◌, ◌<◌, ◌≤◌, Bool, true, false, not, ◌&&◌, ◌||◌, eqb, ltb, sym, refl, ap, ◌∙◌, ⊎_elim, mod-eq_of_lt, arith}
+use Rattle.std.proofs.Common.{◌≡◌, ℕ, zero, suc, ◌%◌, ◌<◌, ◌≤◌, true, false, not, eqb, refl, ap, ⊎_elim, mod-eq_of_lt, arith}
 use native.Mathlib.Decide.{dec_lt}
-use Rattle.std.proofs.lemmas.Bool.{and_from, and_parts, both_ways, cases_Bool, cases_eq, eq-eqb, eqb-false, eqb-true, le-ltb, lt-ltb, ltb-false, ltb-true, ne_eqb, not-true, or_from, or_left, or_parts, or_right}
+use Rattle.std.proofs.lemmas.Bool.{cases_eq, eq-eqb, eqb-true}
 use Rattle.campaigns.specs.Divisors.{Coprime, Exactly, shares}
 use Rattle.campaigns.specs.Refusals.{StepRule, bad_step}
 
 pub coprime_shares : (a b most : ℕ) → Coprime a b → shares a b most ≡ false
 coprime_shares a b zero h = refl
-coprime_shares a b (suc d) h =
-    or_from (shares a b d) (ltb 1 (suc d) && (eqb (a % suc d) 0 && eqb (b % suc d) 0)) (coprime_shares a b d h)
-    (⊎_elim
-    (λ (t : (ltb 1 (suc d) && (eqb (a % suc d) 0 && eqb (b % suc d) 0)) ≡ true).
-    let p = and_parts (ltb 1 (suc d)) (eqb (a % suc d) 0 && eqb (b % suc d) 0) t in
-    let q = and_parts (eqb (a % suc d) 0) (eqb (b % suc d) 0) p.1 in
-    absurd (h (suc d) (ltb-true 1 (suc d) p.0) (eqb-true (a % suc d) 0 q.0) (eqb-true (b % suc d) 0 q.1)))
-    (λ (f : (ltb 1 (suc d) && (eqb (a % suc d) 0 && eqb (b % suc d) 0)) ≡ false). f)
-    (cases_Bool (ltb 1 (suc d) && (eqb (a % suc d) 0 && eqb (b % suc d) 0))))
+coprime_shares a b (suc d) h = let older = coprime_shares a b d h in let here = h (suc d) in grind arith
 
 pub divisor_shares : (a b d most : ℕ) → 1 < d → d ≤ most → a % d ≡ 0 → b % d ≡ 0 → shares a b most ≡ true
 divisor_shares a b d zero big le ha hb = absurd (omega arith)
 divisor_shares a b d (suc most) big le ha hb = elim (dec_lt d (suc most)) [
-  | yes lt ↦ or_left (shares a b most) (ltb 1 (suc most) && (eqb (a % suc most) 0 && eqb (b % suc most) 0)) (divisor_shares a b d most big (omega arith) ha hb)
-  | no ge ↦
-      let e : d ≡ suc most = omega arith in
-      let ha' : a % suc most ≡ 0 = cc in
-      let hb' : b % suc most ≡ 0 = cc in
-      or_right (shares a b most) (ltb 1 (suc most) && (eqb (a % suc most) 0 && eqb (b % suc most) 0))
-      (and_from (ltb 1 (suc most)) (eqb (a % suc most) 0 && eqb (b % suc most) 0) (lt-ltb 1 (suc most) (omega arith))
-      (and_from (eqb (a % suc most) 0) (eqb (b % suc most) 0) (eq-eqb (a % suc most) 0 ha') (eq-eqb (b % suc most) 0 hb')))
+  | yes lt ↦ let older = divisor_shares a b d most big (omega arith) ha hb in grind arith
+  | no ge ↦ let e : d ≡ suc most = omega arith in grind arith
 ]
 
 -- what divides b is at most b
 divisor_within : (b d : ℕ) → 0 < b → b % d ≡ 0 → d ≤ b
 divisor_within b d some h = elim (dec_lt b d) [ yes lt ↦ let k : b % d ≡ b = mod-eq_of_lt lt in absurd (omega arith) | no le ↦ omega arith ]
-
-positive : (step n : ℕ) → (step ≡ 0 → ⊥) → step ≤ n → 0 < n
-positive zero n some le = absurd (some refl)
-positive (suc step) n some le = omega arith
-
-or_skip : (x y : Bool) → x ≡ false → (x || y) ≡ y
-or_skip true y e = absurd (both_ways true e refl)
-or_skip false y e = refl
-
-not_one : (x : ℕ) → (x ≡ 1 → ⊥) → x ≤ 1 → x ≡ 0
-not_one x ne le = elim (dec_lt 0 x) [ yes lt ↦ absurd (ne (omega arith)) | no h ↦ omega arith ]
 
 -- the greatest common divisor decides
 module _ (a b r : ℕ) (left : a % r ≡ 0) (right : b % r ≡ 0) (greatest : (d : ℕ) → a % d ≡ 0 → b % d ≡ 0 → r % d ≡ 0) where
@@ -76,36 +51,27 @@ module _ (a b r : ℕ) (left : a % r ≡ 0) (right : b % r ≡ 0) (greatest : (d
   pub coprime_tried : 0 < b → eqb r 1 ≡ not (shares a b b)
   coprime_tried some =
       ⊎_elim
-      (λ (one : r ≡ 1). eq-eqb r 1 one ∙ sym (ap not (coprime_shares a b b (one_coprime one))))
-      (λ (more : r ≡ 1 → ⊥). ne_eqb r 1 more ∙ sym (ap not (shared more)))
+      (λ (one : r ≡ 1). let none = coprime_shares a b b (one_coprime one) in grind arith)
+      (λ (more : r ≡ 1 → ⊥). let found = shared more in grind arith)
       (cases_eq r 1)
     where
       shared : (r ≡ 1 → ⊥) → shares a b b ≡ true
       shared ne = elim (dec_lt 1 r) [
         | yes lt ↦ divisor_shares a b r b lt (divisor_within b r some right) left right
-        | no le ↦ let e : r ≡ 0 = not_one r ne (omega arith) in let z : b % 0 ≡ 0 = cc in absurd (omega arith)
+        | no le ↦ let e : r ≡ 0 = omega (arith, ne) in let z : b % 0 ≡ 0 = cc in absurd (omega arith)
       ]
 
 -- ---- steps
 
-bad_false : (n step : ℕ) → (step ≡ 0 → ⊥) → step ≤ n → bad_step n step ≡ shares step n n
-bad_false n step some le = or_skip (eqb step 0) (ltb n step || shares step n n) (ne_eqb step 0 some) ∙ or_skip (ltb n step) (shares step n n) (le-ltb n step le)
-
 pub usable_fits : (n step : ℕ) → not (bad_step n step) ≡ true → step ≤ n
-usable_fits n step h =
-    let p = or_parts (eqb step 0) (ltb n step || shares step n n) (not-true (bad_step n step) h) in
-    ltb-false n step (or_parts (ltb n step) (shares step n n) p.1).0
+usable_fits n step h = grind arith
 
 pub usable_coprime : (n step : ℕ) → 0 < n → not (bad_step n step) ≡ true → Coprime step n
 usable_coprime n step pos h d big hs hn =
-    let p = or_parts (eqb step 0) (ltb n step || shares step n n) (not-true (bad_step n step) h) in
-    let f = (or_parts (ltb n step) (shares step n n) p.1).1 in
-    both_ways (shares step n n) f (divisor_shares step n d n big (divisor_within n d pos hn) hs hn)
+    let found = divisor_shares step n d n big (divisor_within n d pos hn) hs hn in grind arith
 
 usable_some : (n step : ℕ) → not (bad_step n step) ≡ true → 1 ≤ step
-usable_some n zero h =
-    absurd (eqb-false 0 0 (or_parts (eqb 0 0) (ltb n 0 || shares 0 n n) (not-true (bad_step n 0) h)).0 refl)
-usable_some n (suc step) h = omega arith
+usable_some n step h = grind arith
 
 pub step_rule : StepRule
 step_rule n step = (
@@ -114,5 +80,5 @@ step_rule n step = (
       let one = usable_some n step u in
       let fits = usable_fits n step u in
       (one, fits, usable_coprime n step (omega arith) u),
-  λ r. bad_false n step (λ e. omega (arith, r.0)) r.1 ∙ coprime_shares step n n r.2,
+  λ r. let none = coprime_shares step n n r.2 in let one = r.0 in let fits = r.1 in grind arith,
 )

@@ -15,24 +15,20 @@ use Rattle.campaigns.proofs.Kept.{promised}
 
 module _ {V : Type 0} (alike : V → V → Bool) where
   not_alike : (b : Bool) → ◌≡◌ {A = Result Outcome ℕ} (Ok (cond b Agreed Differing)) (Ok Differing) → b ≡ false
-  not_alike false h = refl
-  not_alike true h = let z : ◌≡◌ {A = ℕ} 0 1 = cc in absurd (omega arith)
+  not_alike b h = grind arith
 
   told_differing : (r s : Result V ℕ) → told alike r s ≡ Ok Differing → (a : V) × (b : V) × (r ≡ Ok a) × (s ≡ Ok b) × (alike a b ≡ false)
-  told_differing (Err f) s h = let z : ◌≡◌ {A = ℕ} 0 1 = cc in absurd (omega arith)
-  told_differing (Ok a) (Err f) h = let z : ◌≡◌ {A = ℕ} 0 1 = cc in absurd (omega arith)
+  told_differing (Err f) s h = grind arith
+  told_differing (Ok a) (Err f) h = grind arith
   told_differing (Ok a) (Ok b) h = (a, b, refl, refl, not_alike (alike a b) h)
 
   differing_told : (r s : Result V ℕ) (a b : V) → r ≡ Ok a → s ≡ Ok b → alike a b ≡ false → told alike r s ≡ Ok Differing
-  differing_told r s a b p q f =
-      ap (λ x. told alike x s) p ∙ ap (told alike (Ok a)) q ∙ ap (λ t. Ok (cond t Agreed Differing)) f
+  differing_told r s a b p q f = rw (p, q, f) refl
 
   -- no result differs from itself
   never_itself : ((a : V) → alike a a ≡ true) → (r : Result V ℕ) → told alike r r ≡ Ok Differing → ⊥
-  never_itself reflexive (Ok a) h =
-      let e : told alike (Ok a) (Ok a) ≡ Ok Agreed = ap (λ t. Ok (cond t Agreed Differing)) (reflexive a) in
-      let z : ◌≡◌ {A = ℕ} 0 1 = cc in omega arith
-  never_itself reflexive (Err f) h = let z : ◌≡◌ {A = ℕ} 0 1 = cc in omega arith
+  never_itself reflexive (Ok a) h = let e = reflexive a in grind arith
+  never_itself reflexive (Err f) h = grind arith
 
 module _ {V : Type 0} (rule : Rule V) (alike : V → V → Bool) (m : Meaning) (law : Lawful m) where
   result_in : (x : ℕ) (v : V) → x < plans m → value_of_list rule (listing m x) ≡ Ok v → ResultsIn rule m x v

@@ -1,5 +1,5 @@
 -- The baseline's result, which a campaign over a prepared space keeps once it is worked out.
-use Rattle.std.specs.Prelude.{◌≡◌, ℕ, Bool, true, false, List, Some, None, Ok, Err, Option, Result}
+use Rattle.std.specs.Prelude.{◌≡◌, ℕ, Bool, List, Some, None, Option, Result}
 use Rattle.spaces.specs.Spaces.{Meaning}
 use Rattle.numbering.specs.declared.node.Node.{Node}
 use Rattle.numbering.specs.Listings.{listing}
@@ -16,18 +16,6 @@ use Rattle.campaigns.specs.Verdicts.{by_engine, told}
 abbrev pub expected : {V : Type 0} → Option (Result V ℕ) → Result V ℕ → Result V ℕ
 expected None worked = worked
 expected (Some kept) worked = kept
-
--- a result is kept
-abbrev pub is_result : {V : Type 0} → Option (Result V ℕ) → Bool
-is_result None = false
-is_result (Some (Ok v)) = true
-is_result (Some (Err f)) = false
-
--- the fault that is kept
-abbrev pub kept_fault : {V : Type 0} → Option (Result V ℕ) → Option ℕ
-kept_fault None = None
-kept_fault (Some (Ok v)) = None
-kept_fault (Some (Err f)) = Some f
 
 -- the verdict of an engine on the plans of a space beside the result that is kept
 abbrev pub beside : {V : Type 0} → Option (Result V ℕ) → Rule V → (V → V → Bool) → Meaning → Verdict

@@ -117,14 +117,14 @@ finds_after Agreed d x finds = finds
 finds_after Differing d x finds = slice_set finds d x
 finds_after (Faulted f) d x finds = finds
 
--- an outcome, settled: it is counted, and a differing plan is noted, unless the finds list is short
-abbrev pub Settled : Outcome → Pending → List ℕ → List ℕ → Result Ran NotRun → Type 0
-Settled o s old new (Ok d) =
-    (noted o s.counts.differing (length old) ≡ Ok d.outcome)
+-- what the two plans told, settled: an outcome is counted, and a differing plan is noted, unless the baseline has a fault or the finds list is short
+abbrev pub Settled : Result Outcome ℕ → Pending → List ℕ → List ℕ → Result Ran NotRun → Type 0
+Settled told s old new (Ok d) =
+    (concluded told s.counts.differing (length old) ≡ Ok d.outcome)
     × (of_ready d.ready ≡ counting (of_pending s) (one_ran d.outcome s.counts))
     × (new ≡ finds_after d.outcome s.counts.differing s.number old)
-Settled o s old new (Err d) =
-    (noted o s.counts.differing (length old) ≡ Err d.why)
+Settled told s old new (Err d) =
+    (concluded told s.counts.differing (length old) ≡ Err d.why)
     × (d.pending ≡ s)
     × (new ≡ old)
 

@@ -8,6 +8,7 @@ use Rattle.campaigns.specs.declared.campaign.Ready.{Ready}
 use Rattle.campaigns.specs.declared.conduct.Stopped.{Stopped}
 use Rattle.campaigns.specs.declared.conduct.Stopped.TheVariants.{AtDraw, AtRun}
 use Rattle.campaigns.specs.declared.outcome.Outcome.{Outcome}
+use Rattle.campaigns.specs.declared.refusal.CampaignRefusal.{CampaignRefusal}
 use Rattle.campaigns.specs.Calls.{Verdict}
 use Rattle.campaigns.specs.Histories.{History, Log, Steps, a_draw, a_run, drawn_in, no_draw, no_run}
 
@@ -28,6 +29,11 @@ pub data Turns : Log → Type 0 where
 abbrev pub stopped_in : Stopped → Ready ⊎ Pending
 stopped_in (AtDraw d) = inl d.ready
 stopped_in (AtRun d) = inr d.pending
+
+-- why it is
+abbrev pub why_stopped : Stopped → CampaignRefusal
+why_stopped (AtDraw d) = d.why
+why_stopped (AtRun d) = d.why
 
 -- some plans were drawn and run, fewer than asked for, and then a draw or a run was refused
 abbrev pub Stops : ℕ → Stopped → Log → Type 0

@@ -12,11 +12,9 @@ use crate::outcome::Outcome;
 use crate::refusal::CampaignRefusal;
 
 pub mod baseline;
+mod comparing;
 pub mod drawing;
 pub mod making;
-pub mod prepared_drawing;
-pub mod prepared_making;
-pub mod prepared_running;
 pub mod running;
 pub mod settling;
 pub mod telling;

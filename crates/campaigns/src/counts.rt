@@ -1,5 +1,5 @@
 /// What a campaign has counted since it was made.
-#[derive(Clone, Copy, PartialEq, Eq, Debug)]
+#[derive(Clone, Copy, PartialEq, Eq, Debug, Default)]
 pub struct Counts {
     /// Accepted draws.
     pub drawn: u64,

@@ -3,7 +3,6 @@
 
 pub mod campaign;
 pub mod conduct;
-pub mod conduct_prepared;
 pub mod counts;
 pub mod divisors;
 pub mod outcome;

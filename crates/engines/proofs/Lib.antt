@@ -1,3 +1,2 @@
 pub mod Members
-pub mod Stacks
 pub mod Values

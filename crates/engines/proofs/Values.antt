@@ -35,11 +35,11 @@ laid_pushed : {V : Type 0} (r : Result V ℕ) (stack : List V) → laid (pushed 
 laid_pushed (Ok v) stack = refl
 laid_pushed (Err f) stack = refl
 
-worked_append : {V : Type 0} (rule : Rule V) (xs ys : List Node) (r : Result (List V) ℕ) → worked rule (xs ++ ys) r ≡ worked rule xs (worked rule ys r)
+pub worked_append : {V : Type 0} (rule : Rule V) (xs ys : List Node) (r : Result (List V) ℕ) → worked rule (xs ++ ys) r ≡ worked rule xs (worked rule ys r)
 worked_append rule [] ys r = refl
 worked_append rule (x ∷ xs) ys r = ap (after rule x.alternative) (worked_append rule xs ys r)
 
-stops : {V : Type 0} (rule : Rule V) (xs : List Node) (f : ℕ) → worked rule xs (Err f) ≡ Err f
+pub stops : {V : Type 0} (rule : Rule V) (xs : List Node) (f : ℕ) → worked rule xs (Err f) ≡ Err f
 stops rule [] f = refl
 stops rule (x ∷ xs) f = ap (after rule x.alternative) (stops rule xs f)
 

@@ -64,8 +64,3 @@ value_of_list rule list = topmost (worked rule list (Ok []))
 -- r is the value of every plan that has this list
 abbrev pub Valued : {V : Type 0} → Rule V → List Node → Result V ℕ → Type 0
 Valued rule list r = (m : Meaning) (g : ℕ) (t : Tree m (Some g)) → nodes t ≡ list → r ≡ value rule t
-
--- What working out nodes answers: where the stack then begins in the buffer, or the fault.
-abbrev pub Stacked : {V : Type 0} → Result (List V) ℕ → List V → Result ℕ ℕ → Type 0
-Stacked stack values (Ok top) = stack ≡ Ok (drop top values)
-Stacked stack values (Err fault) = stack ≡ Err fault

@@ -5,7 +5,8 @@ ghost use Rattle.spaces.specs.declared.kind.Kind.{Kind};
 
 use spaces::kind::Kind;
 
-/// An engine gives each node of a plan a result of its own type, or a fault number.
+/// An engine gives each node of a plan a result of its own type, or a fault number: a number, since every
+/// engine has faults of its own.
 ///
 /// `rule` is what it gives, from the node's kind and tag and the children's results, left first.
 /// `alike` says whether two results, the baseline's first, are the same.

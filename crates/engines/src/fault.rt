@@ -1,16 +1,34 @@
 //! The faults that the engines of this crate tell by number.
 
-/// A scan of a relation that there is not.
-pub const NO_SUCH_RELATION: u8 = 1;
+ghost use Rattle.std.specs.Prelude.{◌≡◌};
+ghost use Rattle.engines.specs.Faults.{number_of};
 
-/// A result of more than 10^18 rows.
-pub const TOO_MANY_ROWS: u8 = 2;
+/// Why an engine of this crate gives a node no result.
+#[derive(Clone, Copy, PartialEq, Eq, Debug)]
+pub enum Fault {
+    /// A scan of a relation that there is not.
+    NoSuchRelation,
+    /// A result of more than 10^18 rows.
+    TooManyRows,
+    /// A join of two sides that share a relation.
+    SidesOverlap,
+    /// A merge join with a child that is not sorted.
+    ChildUnsorted,
+    /// Children whose number is not the kind's.
+    ChildrenMisfit,
+}
 
-/// A join of two sides that share a relation.
-pub const SIDES_OVERLAP: u8 = 3;
+/// The number by which an engine tells the fault.
+impl From<Fault> for u8 {
+    ghost from_gives = { λ fault number. number ≡ number_of fault };
 
-/// A merge join with a child that is not sorted.
-pub const CHILD_UNSORTED: u8 = 4;
-
-/// Children whose number is not the kind's.
-pub const CHILDREN_MISFIT: u8 = 7;
+    fn from(fault: Fault) -> u8 {
+        match fault {
+            Fault::NoSuchRelation => 1,
+            Fault::TooManyRows => 2,
+            Fault::SidesOverlap => 3,
+            Fault::ChildUnsorted => 4,
+            Fault::ChildrenMisfit => 7,
+        }
+    }
+}

@@ -7,3 +7,4 @@ pub mod evaluation;
 pub mod fault;
 pub mod rows;
 mod sets;
+mod stack;

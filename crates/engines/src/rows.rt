@@ -1,11 +1,12 @@
 //! An engine that counts rows.
 
 ghost use Rattle.std.specs.Prelude.{◌≡◌, ◌==◌};
+ghost use Rattle.engines.specs.Faults.{numbered};
 ghost use Rattle.engines.specs.RowCounts.{counted as counted_rows, row_rule, scanned};
 ghost use Rattle.std.proofs.Common.{eq-eqb, refl};
 
 use crate::engine::Engine;
-use crate::fault::{CHILDREN_MISFIT, NO_SUCH_RELATION, TOO_MANY_ROWS};
+use crate::fault::Fault;
 use spaces::kind::Kind;
 
 /// The most rows that a result has.
@@ -27,24 +28,22 @@ impl Rows {
 }
 
 /// A number of rows, unless it is too large.
-fn counted(rows: u64) -> Result<u64, u8>
-    ensures { result ≡ counted_rows rows }
+fn counted(rows: u64) -> Result<u64, Fault>
+    ensures { numbered result ≡ counted_rows rows }
 {
     if rows > MOST_ROWS {
-        Err(TOO_MANY_ROWS)
+        Err(Fault::TooManyRows)
     } else {
         Ok(rows)
     }
 }
 
 /// The rows of a relation.
-fn scan(relations: &[u64], tag: u16) -> Result<u64, u8>
-    ensures { result ≡ scanned relations.now tag }
+fn scan(relations: &[u64], tag: u16) -> Result<u64, Fault>
+    ensures { numbered result ≡ scanned relations.now tag }
 {
-    match relations.get(tag as usize) {
-        Some(&rows) => counted(rows),
-        None => Err(NO_SUCH_RELATION),
-    }
+    let rows = *relations.get(tag as usize).ok_or(Fault::NoSuchRelation)?;
+    counted(rows)
 }
 
 impl Engine for Rows {
@@ -58,17 +57,18 @@ impl Engine for Rows {
 
     fn node(&self, kind: Kind, tag: u16, children: &[u64]) -> Result<u64, u8> {
         if children.len() != kind.arity() as usize {
-            return Err(CHILDREN_MISFIT);
+            return Err(Fault::ChildrenMisfit.into());
         }
-        match kind {
-            Kind::Scan | Kind::IndexScan => scan(&self.relations, tag),
+        let rows = match kind {
+            Kind::Scan | Kind::IndexScan => scan(&self.relations, tag)?,
             Kind::HashJoin | Kind::MergeJoin | Kind::NestedLoops => {
                 // A product past 64 bits stops at a number that is too large anyway.
-                counted(children[0].saturating_mul(children[1]))
+                counted(children[0].saturating_mul(children[1]))?
             }
-            Kind::Filter => counted(children[0] / (tag as u64 + 1)),
-            Kind::Sort => counted(children[0]),
-        }
+            Kind::Filter => counted(children[0] / (tag as u64 + 1))?,
+            Kind::Sort => counted(children[0])?,
+        };
+        Ok(rows)
     }
 
     fn same(&self, baseline: &u64, other: &u64) -> bool {

@@ -5,18 +5,10 @@ use numbering::node::Node;
 use prepared::prepared::{Prepared, prepare};
 use spaces::bushy::Bushy;
 use spaces::kind::Kind;
-use spaces::space::Alternative;
 use std::alloc::Global;
 
-const NO_NODE: Node = Node {
-    goal: 0,
-    alternative: Alternative {
-        kind: Kind::Scan,
-        tag: 0,
-        left: 0,
-        right: 0,
-    },
-};
+/// Numbers are taken by steps of this length.
+const STEP: u64 = 7919;
 
 /// A prepared space, how many plans it has, and buffers for its calls.
 #[derive(Drop)]
@@ -27,25 +19,38 @@ pub struct Bench {
     pub plan: Vec<Node>,
 }
 
-/// The bushy space with hash joins over some relations, prepared.
-pub fn bushy_bench(heap: Global, relations: u64) -> Option<Bench> {
-    let Ok(bushy) = Bushy::new(relations, Kind::HashJoin) else {
-        return None;
-    };
-    let Ok(space) = prepare(&bushy, heap) else {
-        return None;
-    };
-    let (plans, largest) = space.count();
-    let Ok(work) = vec![in heap; Due { goal: 0, number: 0 }; largest as usize] else {
-        return None;
-    };
-    let Ok(plan) = vec![in heap; NO_NODE; largest as usize] else {
-        return None;
-    };
-    Some(Bench {
-        space,
-        plans,
-        work,
-        plan,
-    })
+impl Bench {
+    /// The bushy space with hash joins over some relations, prepared.
+    pub fn bushy(heap: Global, relations: u64) -> Option<Bench> {
+        let bushy = Bushy::new(relations, Kind::HashJoin).ok()?;
+        let space = prepare(&bushy, heap).ok()?;
+        let (plans, largest) = space.count();
+        let largest = usize::from(largest);
+        Some(Bench {
+            space,
+            plans,
+            work: vec![in heap; Due::default(); largest].ok()?,
+            plan: vec![in heap; Node::default(); largest].ok()?,
+        })
+    }
+
+    /// The sum of what `work` gives for `rounds` numbers of plans.
+    pub fn sum<F: Fn(&mut Bench, u64) -> Option<u64>>(
+        &mut self,
+        rounds: u64,
+        work: F,
+    ) -> Option<u64>
+        requires { F.IsAlwaysCallable work }
+    {
+        let mut sum: u64 = 0;
+        let mut number: u64 = 0;
+        for _ in 0..rounds {
+            sum = sum.wrapping_add(work(self, number)?);
+            number = number.wrapping_add(STEP);
+            if number >= self.plans {
+                number = 0;
+            }
+        }
+        Some(sum)
+    }
 }

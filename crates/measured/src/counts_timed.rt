@@ -11,64 +11,54 @@ use spaces::order::{Order, OrderLayer};
 use spaces::space::Space;
 use std::alloc::Global;
 
-/// All seven kinds.
+/// The mask of all seven kinds.
 const EVERY_KIND: u8 = 0b111_1111;
+
+fn count_rounds(heap: Global, relations: u64, rounds: u64) -> Option<u64> {
+    let space = Bushy::new(relations, Kind::HashJoin).ok()?;
+    let mut tallies = vec![in heap; Tally::default(); usize::from(space.goals())].ok()?;
+    let mut sum: u64 = 0;
+    for _ in 0..rounds {
+        let (plans, _) = count(&space, &mut tallies).ok()?;
+        sum = sum.wrapping_add(plans);
+    }
+    Some(sum)
+}
+
+fn prepare_rounds<S: Space>(heap: Global, space: &S, rounds: u64) -> Option<u64> {
+    let mut sum: u64 = 0;
+    for _ in 0..rounds {
+        let (plans, _) = prepare(space, heap).ok()?.count();
+        sum = sum.wrapping_add(plans);
+    }
+    Some(sum)
+}
+
+/// Prepares the bushy space with merge joins, bare or under layers, which C names by their number.
+fn prepare_layered(heap: Global, relations: u64, layers: u64, rounds: u64) -> Option<u64> {
+    let bare = Bushy::new(relations, Kind::MergeJoin).ok()?;
+    let mask = KindMask::new(EVERY_KIND).ok()?;
+    let filtered = KindFilter::new(bare, mask);
+    match layers {
+        0 => prepare_rounds(heap, &bare, rounds),
+        1 => prepare_rounds(heap, &filtered, rounds),
+        2 => prepare_rounds(heap, &OrderLayer::new(filtered, Order::Any), rounds),
+        _ => {
+            let ordered = OrderLayer::new(filtered, Order::Any);
+            prepare_rounds(heap, &KindFilter::new(ordered, mask), rounds)
+        }
+    }
+}
 
 /// Counts the bushy space with hash joins by the plain call.
 #[unsafe(no_mangle)]
 pub extern "C" fn planbench_count(heap: Global, relations: u64, rounds: u64) -> u64 {
-    let Ok(space) = Bushy::new(relations, Kind::HashJoin) else {
-        return 0;
-    };
-    let Ok(mut tallies) = vec![in heap; Tally { count: 0, size: 0 }; space.goals() as usize] else {
-        return 0;
-    };
-    let mut sum: u64 = 0;
-    for _ in 0..rounds {
-        if let Ok((plans, _)) = count(&space, tallies.as_mut_slice()) {
-            sum = sum.wrapping_add(plans);
-        }
-    }
-    sum
-}
-
-/// Prepares a space.
-fn prepare_rounds<S: Space>(heap: Global, space: &S, rounds: u64) -> u64 {
-    let mut sum: u64 = 0;
-    for _ in 0..rounds {
-        if let Ok(table) = prepare(space, heap) {
-            let (plans, _) = table.count();
-            sum = sum.wrapping_add(plans);
-        }
-    }
-    sum
+    count_rounds(heap, relations, rounds).unwrap_or(0)
 }
 
 /// Prepares the bushy space with merge joins, bare (0 layers), or under a filter (1), a filter and an order (2), a filter, an
 /// order and a filter (3). The filters keep every kind, so that each layer has all of the work.
 #[unsafe(no_mangle)]
 pub extern "C" fn planbench_prepare(heap: Global, relations: u64, layers: u64, rounds: u64) -> u64 {
-    let Ok(bare) = Bushy::new(relations, Kind::MergeJoin) else {
-        return 0;
-    };
-    let Ok(mask) = KindMask::new(EVERY_KIND) else {
-        return 0;
-    };
-    match layers {
-        0 => prepare_rounds(heap, &bare, rounds),
-        1 => prepare_rounds(heap, &KindFilter::new(bare, mask), rounds),
-        2 => prepare_rounds(
-            heap,
-            &OrderLayer::new(KindFilter::new(bare, mask), Order::Any),
-            rounds,
-        ),
-        _ => prepare_rounds(
-            heap,
-            &KindFilter::new(
-                OrderLayer::new(KindFilter::new(bare, mask), Order::Any),
-                mask,
-            ),
-            rounds,
-        ),
-    }
+    prepare_layered(heap, relations, layers, rounds).unwrap_or(0)
 }

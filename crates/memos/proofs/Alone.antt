@@ -1,5 +1,5 @@
 -- One record: what is read is what is written.
-use Rattle.std.proofs.Common.{◌≡◌, ℕ, ◌+◌, ◌<◌, ◌≤◌, Bool, true, false, ◌||◌, ltb, leb, List, ◌++◌, length, get_or, drop, is_some, Some, None, Ok, Err, unwrap_or, sym, ap, ◌∙◌, subst, arith, lit<}
+use Rattle.std.proofs.Common.{◌≡◌, ℕ, ◌+◌, ◌<◌, ◌≤◌, Bool, true, false, ◌||◌, ltb, leb, List, ◌++◌, length, get_or, drop, is_some, Some, None, Option, Ok, Err, Result, MatchResult, unwrap_or, sym, refl, ap, ◌∙◌, subst, arith, lit<}
 use Rattle.std.specs.List.{AllByRecursion}
 use Rattle.std.proofs.lemmas.Bool.{or_parts, or_from, ltb-false, leb-true, leb-false, le-ltb, lt-leb, le-leb}
 use Rattle.spaces.specs.Kinds.{arity}
@@ -9,7 +9,7 @@ use Rattle.memos.specs.declared.fields.Record.{Record}
 use Rattle.memos.specs.Memos.{provided, fields_of, bit_map, record_bytes, listing, Fitting}
 use Rattle.memos.specs.Rules.{first, kind_or_scan, word_at, bit_at, end_from, fields_at, written_at, record_of, bad_children, bad_child, field_rules, again_rules, shape_rules}
 use Rattle.memos.specs.Reading.{followed, read_alone, passed, read_record}
-use Rattle.memos.proofs.Answered.{ok_same, passed_ok, passed_none, followed_ok}
+use Rattle.memos.proofs.Answered.{passed_ok, passed_none, followed_ok}
 use Rattle.memos.proofs.Parts.{byte_at, some_provided, fields_read, fields_back}
 use Rattle.memos.proofs.Rules.{first_all, all_first, goal_is, goal_back, kind_is, kind_back, tag_is, tag_back, children_are, children_back, arity_small, child_is, child_below, child_none, child_back, among_none, among_not}
 
@@ -77,7 +77,7 @@ alone_sound file goals low at p h w e =
     let q0 = passed_ok (first (shape_rules file at)) (passed (first (field_rules goals low at f)) (Ok (record_of low f, end_from m at))) p e in
     let q1 = passed_ok (first (field_rules goals low at f)) (Ok (record_of low f, end_from m at)) p q0.1 in
     let s = first_all (shape_rules file at) q0.0 in
-    let is : (record_of low f, end_from m at) ≡ p = ok_same _ _ q1.1 in
+    let is : (record_of low f, end_from m at) ≡ p = cc q1.1 in
     let lt : m < 32 = omega (arith, ltb-false 31 m s.0) in
     let fin : end_from m at ≤ length file = ltb-false (length file) (end_from m at) s.1.0 in
     let t = first_all (field_rules goals low at f) q1.0 in
@@ -100,7 +100,8 @@ record_sound file goals sofar low at p all h w e =
     let a = alone_sound file goals low at x.0 h w x.1 in
     let n = first_all (again_rules sofar at x.0.0) y.0 in
     let P : Record × ℕ → Type 0 = λ q. Step file goals sofar low at q.0 q.1 in
-    subst P (ok_same _ _ y.1) (record { bytes_are = a.bytes_are all; rises = a.rises; fits = a.fits (a.tag_small all); new = among_none (listing sofar x.0.0.goal) x.0.0.alternative n.0 })
+    let same : x.0 ≡ p = cc y.1 in
+    subst P same (record { bytes_are = a.bytes_are all; rises = a.rises; fits = a.fits (a.tag_small all); new = among_none (listing sofar x.0.0.goal) x.0.0.alternative n.0 })
 
 fields_complete : (goals low at : ℕ) (r : Record) → Fitting goals r → low ≤ r.goal + 1 → (first (field_rules goals low at (fields_of low r)) ≡ None) × (record_of low (fields_of low r) ≡ r)
 fields_complete goals low at r fit w =
@@ -142,17 +143,15 @@ record_complete file goals sofar low at r rest fit w new e =
 
 -- ---------- the reading of a record whose shape is right
 
-module _ (file : List ℕ) (goals low at : ℕ) (f : Fields) (few : get_or file at 0 ≤ 31) (inside : end_from (get_or file at 0) at ≤ length file) (is : f ≡ written_at file at) where
-  shape : first (shape_rules file at) ≡ None
-  shape = all_first (shape_rules file at) (le-ltb 31 (get_or file at 0) few, (le-ltb (length file) (end_from (get_or file at 0) at) inside, tt))
+both : {X Y E : Type 0} (o : Option E) (x : X) (y : Y) → MatchResult (passed o (Ok x)) (λ r. passed {X = X × Y} o (Ok (x, y)) ≡ Ok (r, y)) (λ e. passed {X = X × Y} o (Ok (x, y)) ≡ Err e)
+both None x y = refl
+both (Some e) x y = refl
 
-  by_fields : read_alone file goals low at ≡ passed (first (field_rules goals low at f)) (Ok (record_of low f, end_from (get_or file at 0) at))
-  by_fields =
-      passed_none (first (shape_rules file at)) (passed (first (field_rules goals low at (written_at file at))) (Ok (record_of low (written_at file at), end_from (get_or file at 0) at))) shape
-      ∙ ap (λ g. passed (first (field_rules goals low at g)) (Ok (record_of low g, end_from (get_or file at 0) at))) (sym is)
-
-  pub alone_bad : (e : OpenRefusal) → first (field_rules goals low at f) ≡ Some e → read_alone file goals low at ≡ Err e
-  alone_bad e h = by_fields ∙ ap (λ o. passed o (Ok (record_of low f, end_from (get_or file at 0) at))) h
-
-  pub alone_good : first (field_rules goals low at f) ≡ None → read_alone file goals low at ≡ Ok (record_of low f, end_from (get_or file at 0) at)
-  alone_good h = by_fields ∙ ap (λ o. passed o (Ok (record_of low f, end_from (get_or file at 0) at))) h
+pub alone_read : (file : List ℕ) (goals low at next : ℕ) (f : Fields) (r : Result Record OpenRefusal) → (first (shape_rules file at) ≡ None) × (f ≡ written_at file at) × (next ≡ end_from (get_or file at 0) at) → r ≡ passed (first (field_rules goals low at f)) (Ok (record_of low f)) → MatchResult r (λ r. read_alone file goals low at ≡ Ok (r, next)) (λ e. read_alone file goals low at ≡ Err e)
+alone_read file goals low at next f r shape is =
+    let o = first (field_rules goals low at f) in
+    let by_fields : read_alone file goals low at ≡ passed o (Ok (record_of low f, next)) =
+    passed_none (first (shape_rules file at)) (passed (first (field_rules goals low at (written_at file at))) (Ok (record_of low (written_at file at), end_from (get_or file at 0) at))) shape.0
+    ∙ (λ i. passed (first (field_rules goals low at (sym shape.1 i))) (Ok (record_of low (sym shape.1 i), sym shape.2 i))) in
+    let P : Result Record OpenRefusal → Result (Record × ℕ) OpenRefusal → Type 0 = λ x y. MatchResult x (λ r. y ≡ Ok (r, next)) (λ e. y ≡ Err e) in
+    subst (λ x. P x (read_alone file goals low at)) (sym is) (subst (P (passed o (Ok (record_of low f)))) (sym by_fields) (both o (record_of low f) next))

@@ -10,7 +10,7 @@ use Rattle.memos.specs.Refusals.{place_of}
 use Rattle.memos.specs.Rules.{first, header_end, header_rules, low_after, record_rules, word_at}
 use Rattle.memos.specs.Reading.{memo_of, passed, read_records, reading, root_at}
 use Rattle.memos.specs.Opens.{Cut, Encodes, Refused, Settled}
-use Rattle.memos.proofs.Answered.{err_ok, ok_same, err_same, passed_none}
+use Rattle.memos.proofs.Answered.{passed_none}
 use Rattle.memos.proofs.Rules.{first_all, first_holds}
 use Rattle.memos.proofs.Heads.{Head, header_sound, header_complete}
 use Rattle.memos.proofs.Runs.{breaks_first, first_breaks, Outcome, outcome, Reached, reached, stopped}
@@ -149,8 +149,8 @@ settled file all = record {
     | Ok m ↦ (λ is. inl (m, reading_encodes file m all is))
     | Err e ↦ (λ is. inr (e, reading_refused file e all is))
   ] refl;
-  one_memo = λ m n a b. ok_same {E = OpenRefusal} m n (sym (encodes_reading file m a) ∙ encodes_reading file n b);
-  one_refusal = λ e f a b. err_same {X = Contents} e f (sym (refused_reading file e a) ∙ refused_reading file f b);
-  not_both = λ m e a b. err_ok e m (sym (refused_reading file e b) ∙ encodes_reading file m a);
+  one_memo = λ m n a b. cc (encodes_reading file m a, encodes_reading file n b);
+  one_refusal = λ e f a b. cc (refused_reading file e a, refused_reading file f b);
+  not_both = λ m e a b. cc (refused_reading file e b, encodes_reading file m a);
   places = refused_cut file;
 }

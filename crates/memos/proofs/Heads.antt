@@ -6,7 +6,6 @@ use Rattle.std.proofs.lemmas.List.{drop_more}
 use Rattle.memos.specs.Memos.{digit, word, unless, provided, header_bytes}
 use Rattle.memos.specs.Rules.{first, word_at, bit_at, header_end, header_rules}
 use Rattle.memos.specs.Reading.{root_at}
-use Rattle.memos.proofs.Answered.{some_same}
 use Rattle.memos.proofs.Parts.{length_word, digit_bit, digit_small, bit_digit, some_provided, word_part, word_field, at_front, drop_front, word_back}
 use Rattle.memos.proofs.Rules.{first_all, all_first}
 
@@ -83,7 +82,7 @@ header_complete file goals root rest h0 h1 h2 h3 e =
     let is : m' ≡ m = at_front file 0 m (word (Some goals) ++ (word o ++ rest)) e in
     let e1 : drop 1 file ≡ word (Some goals) ++ (word o ++ rest) = drop_front file 0 m (word (Some goals) ++ (word o ++ rest)) e in
     let p1 = word_back (Some goals) 1 file 1 (word o ++ rest) e1 refl in
-    let gs : word_at file 1 ≡ goals = some_same (word_at file 1) goals p1.0 in
+    let gs : word_at file 1 ≡ goals = cc p1.0 in
     let bit : m' / 2 % 2 ≡ d = omega arith in
     let p2 = word_back o (m' / 2 % 2) file 3 rest p1.1 bit in
     let ba : bit_at m' 2 ≡ is_some o = bit_digit (is_some o) (m' / 2 % 2) bit in

@@ -11,3 +11,4 @@ pub mod Rules
 pub mod Runs
 pub mod Steps
 pub mod Worked
+pub mod Storing

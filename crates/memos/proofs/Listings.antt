@@ -1,10 +1,10 @@
 -- The alternatives of a goal, with one more record.
-use Rattle.std.proofs.Common.{◌≡◌, ℕ, Bool, true, false, cond, eqb, List, [], ◌∷◌, ◌++◌, map, filter, sym, refl, ap, ◌∙◌, subst, append-nil}
+use Rattle.std.proofs.Common.{◌≡◌, ℕ, suc, ◌≤◌, Bool, true, false, cond, eqb, List, [], ◌∷◌, ◌++◌, map, length, filter, sym, refl, ap, ◌∙◌, subst, append-nil, suc-le-suc, zero-le, arith}
 use Rattle.std.specs.List.{AllByRecursion}
 use Rattle.std.proofs.lemmas.Bool.{eqb-true, eq-eqb}
 use Rattle.std.proofs.lemmas.List.{map-append}
 use Rattle.std.proofs.lemmas.List.Elements.{filter-append}
-use Rattle.std.proofs.ByRecursion.{All-push}
+use Rattle.spaces.specs.Lists.{apart_push}
 use Rattle.spaces.specs.Spaces.{Apart}
 use Rattle.memos.specs.declared.fields.Record.{Record}
 use Rattle.memos.specs.Memos.{listing}
@@ -19,10 +19,6 @@ listing_own r rs =
 
 pub listing_other : (r : Record) (rs : List Record) (g : ℕ) → eqb r.goal g ≡ false → listing (r ∷ rs) g ≡ listing rs g
 listing_other r rs g e = ap (λ t. map (λ r. r.alternative) (cond t (r ∷ filter (λ x. eqb x.goal g) rs) (filter (λ x. eqb x.goal g) rs))) e
-
-pub apart_push : {X : Type 0} (xs : List X) (y : X) → Apart xs → AllByRecursion (λ x. x ≡ y → ⊥) xs → Apart (xs ++ (y ∷ []))
-apart_push [] y h n = (tt, tt)
-apart_push (x ∷ xs) y h n = (All-push (λ z. x ≡ z → ⊥) xs y h.0 n.0, apart_push xs y h.1 n.1)
 
 pub apart_more : (sofar : List Record) (r : Record) → ((g : ℕ) → Apart (listing sofar g)) → AllByRecursion (λ x. x ≡ r.alternative → ⊥) (listing sofar r.goal) → (g : ℕ) → Apart (listing (sofar ++ (r ∷ [])) g)
 apart_more sofar r h new g =
@@ -45,3 +41,9 @@ apart_middle {X} (x ∷ xs) y ys h = (all_here xs h.0, apart_middle xs y ys h.1)
 pub new_from_apart : (sofar : List Record) (r : Record) (rs : List Record) → Apart (listing (sofar ++ (r ∷ rs)) r.goal) → AllByRecursion (λ x. x ≡ r.alternative → ⊥) (listing sofar r.goal)
 new_from_apart sofar r rs h =
     apart_middle (listing sofar r.goal) r.alternative (listing rs r.goal) (subst Apart (listing_append sofar (r ∷ rs) r.goal ∙ ap (λ ys. listing sofar r.goal ++ ys) (listing_own r rs)) h)
+
+pub listing_short : (rs : List Record) (g : ℕ) → length (listing rs g) ≤ length rs
+listing_short [] g = zero-le
+listing_short (r ∷ rs) g =
+    let ih = listing_short rs g in
+    elim (eqb r.goal g) as (λ t. length (map (λ r. r.alternative) (cond t (r ∷ filter (λ x. eqb x.goal g) rs) (filter (λ x. eqb x.goal g) rs))) ≤ suc (length rs)) [ true ↦ suc-le-suc ih | false ↦ omega arith ]

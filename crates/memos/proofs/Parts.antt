@@ -1,8 +1,9 @@
 -- The bytes of a record's fields: what is read is what is written.
-use Rattle.std.proofs.Common.{◌≡◌, ℕ, zero, suc, ◌+◌, ◌-◌, ◌*◌, ◌/◌, ◌%◌, ◌<◌, ◌≤◌, Bool, true, false, eqb, List, [], ◌∷◌, ◌++◌, length, get_or, drop, is_some, Some, None, Option, sym, refl, ap, ◌∙◌, append_assoc, arith, lit<, lit≤, length-append, length-drop}
+use Rattle.std.proofs.Common.{◌≡◌, ℕ, zero, suc, ◌+◌, ◌-◌, ◌*◌, ◌/◌, ◌%◌, ◌<◌, ◌≤◌, Bool, true, false, eqb, List, [], ◌∷◌, ◌++◌, length, get_or, drop, is_some, IfSome, MatchBool, option_map, Some, None, Option, sym, refl, ap, ◌∙◌, append_assoc, arith, lit<, lit≤, length-append, length-drop}
 use Rattle.std.specs.List.{AllByRecursion}
 use Rattle.std.proofs.lemmas.List.{drop_more, drop-drop, get_or-drop}
 use Rattle.std.proofs.lemmas.Nat.{shr-shr}
+use Rattle.memos.specs.declared.cursor.Cursor.{Cursor}
 use Rattle.memos.specs.declared.fields.Fields.{Fields}
 use Rattle.memos.specs.Memos.{digit, word, byte, provided, bit_map, field_bytes, record_bytes}
 use Rattle.memos.specs.Rules.{word_at, bit_at, kind_from, tag_from, left_from, right_from, end_from, fields_at}
@@ -94,6 +95,37 @@ fields_read file at h m e all =
     (word_field (bit_at map 8) (map / 8 % 2) file (left_from map at) (digit_bit map 8) (omega arith) all)
     (word_field (bit_at map 16) (map / 16 % 2) file (right_from map at) (digit_bit map 16) (omega arith) all)
     (map_read file map at m)
+
+-- a field was passed in a file, and the next place is q
+abbrev pub Field : ℕ → Bool → ℕ → ℕ → Option ℕ → ℕ → Type 0
+Field size b value p o q = (o ≡ provided b value) × (q ≡ p + size * digit b)
+
+-- what a field is where its bit stands, by what its own reading answers (A), and where it does not
+pub field_is : (size : ℕ) (b : Bool) (value : ℕ) (old new : Cursor) (r : Option ℕ) (A : Option ℕ → Type 0) → ((o : Option ℕ) → A o → (new.file.now ≡ old.file.now) × IfSome o (λ w. (w ≡ value) × (new.at ≡ old.at + size))) → MatchBool b ((o : Option ℕ) × A o × (◌≡◌ {A = Option (Option ℕ)} (Some r) (option_map (λ x. Some x) o))) ((◌≡◌ {A = Option (Option ℕ)} (Some r) (Some None)) × (new ≡ old)) → (new.file.now ≡ old.file.now) × Field size b value old.at r new.at
+field_is size true value old new r A each (None, a, e) = cc
+field_is size true value old new r A each (Some w, a, e) =
+    let h = each (Some w) a in
+    let is : r ≡ Some w = cc in
+    (h.0, (is ∙ ap (λ v. Some v) h.1.0, omega (arith, h.1.1)))
+field_is size false value old new r A each (e, same) =
+    let none : r ≡ None = cc in
+    (ap (λ (x : Cursor). x.file.now) same, (none, omega (arith, ap (λ (x : Cursor). x.at) same)))
+
+-- all fields were passed, one after the other
+module _ (file f1 f2 f3 f4 : List ℕ) (map at p0 p1 p2 p3 p4 p5 : ℕ) (goal kind tag left right : Option ℕ) (behind : p0 ≡ at + 1) where
+  pub fields_passed : (f1 ≡ file) × Field 2 (eqb (map % 2) 1) (word_at file p0) p0 goal p1 → (f2 ≡ f1) × Field 1 (bit_at map 2) (get_or f1 p1 0) p1 kind p2 → (f3 ≡ f2) × Field 2 (bit_at map 4) (word_at f2 p2) p2 tag p3 → (f4 ≡ f3) × Field 2 (bit_at map 8) (word_at f3 p3) p3 left p4 → Field 2 (bit_at map 16) (word_at f4 p4) p4 right p5 → ◌≡◌ {A = Fields} (record { goal = goal; kind = kind; tag = tag; left = left; right = right }) (fields_at file map at) × (p5 ≡ end_from map at)
+  fields_passed (e1, g) (e2, k) (e3, t) (e4, l) r =
+      let one : map ≡ map / 1 = omega arith in
+      let s1 : p1 ≡ kind_from map at = omega (arith, two_ways (map % 2) (omega arith), g.1) in
+      let s2 : p2 ≡ tag_from map at = omega (arith, digit_bit map 2, k.1) in
+      let s3 : p3 ≡ left_from map at = omega (arith, digit_bit map 4, t.1) in
+      let s4 : p4 ≡ right_from map at = omega (arith, digit_bit map 8, l.1) in
+      let w1 = g.0 ∙ (λ i. provided (eqb (one i % 2) 1) (word_at file (behind i))) in
+      let w2 = k.0 ∙ (λ i. provided (bit_at map 2) (get_or (e1 i) (s1 i) 0)) in
+      let w3 = t.0 ∙ (λ i. provided (bit_at map 4) (word_at ((e2 ∙ e1) i) (s2 i))) in
+      let w4 = l.0 ∙ (λ i. provided (bit_at map 8) (word_at ((e3 ∙ e2 ∙ e1) i) (s3 i))) in
+      let w5 = r.0 ∙ (λ i. provided (bit_at map 16) (word_at ((e4 ∙ e3 ∙ e2 ∙ e1) i) (s4 i))) in
+      ((λ i. record { goal = w1 i; kind = w2 i; tag = w3 i; left = w4 i; right = w5 i }), omega (arith, digit_bit map 16, r.1))
 
 -- ---------- from the fields to the file
 

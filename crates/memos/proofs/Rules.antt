@@ -1,8 +1,7 @@
 -- The rules on a record's fields, and what they say of the record.
-use Rattle.std.proofs.Common.{◌≡◌, ℕ, zero, suc, ◌+◌, ◌-◌, ◌<◌, ◌≤◌, Bool, true, false, cond, not, ◌||◌, eqb, ltb, leb, List, [], ◌∷◌, ◌++◌, length, get_or, drop, is_some, Some, None, Option, unwrap_or, sym, refl, ap, ◌∙◌, subst, inl, inr, arith, lit≤}
+use Rattle.std.proofs.Common.{◌≡◌, ℕ, zero, suc, ◌+◌, ◌-◌, ◌<◌, ◌≤◌, Bool, true, false, cond, not, eqb, ltb, leb, List, [], ◌∷◌, ◌++◌, is_some, Some, None, Option, unwrap_or, sym, refl, ap, ◌∙◌, subst, inl, inr, arith, lit≤}
 use Rattle.std.specs.List.{AllByRecursion}
-use Rattle.std.proofs.lemmas.List.{drop_more, drop_all}
-use Rattle.std.proofs.lemmas.Bool.{or_left, cases_lt, both_ways, or_parts, or_from, ltb-false, leb-false, eqb-false, eqb-true, le-ltb, lt-leb, ne_eqb, eq-eqb, not-false, true≢false, and_parts, and_from}
+use Rattle.std.proofs.lemmas.Bool.{cases_lt, both_ways, or_parts, or_from, ltb-false, leb-false, eqb-false, eqb-true, le-ltb, lt-leb, ne_eqb, eq-eqb, not-false, true≢false, and_parts, and_from}
 use Rattle.spaces.specs.declared.kind.Kind.{Kind}
 use Rattle.spaces.specs.declared.kind.Kind.TheVariants.{Scan, IndexScan, HashJoin, MergeJoin, NestedLoops, Filter, Sort}
 use Rattle.spaces.specs.declared.space.Alternative.{Alternative}
@@ -10,10 +9,10 @@ use Rattle.spaces.specs.Kinds.{code, arity}
 use Rattle.memos.specs.declared.refusal.OpenRefusal.{OpenRefusal}
 use Rattle.memos.specs.Memos.{unless, provided}
 use Rattle.memos.specs.Rules.{first, kind_or_scan, bad_goal, bad_kind, bad_children, bad_tag, bad_child, same, among}
-use Rattle.memos.proofs.Answered.{none_some, or_else, some_same}
+use Rattle.memos.proofs.Answered.{or_else}
 
 pub first_none : (b : Bool) (f : OpenRefusal) (rs : List (Bool × OpenRefusal)) → cond b (Some f) (first rs) ≡ None → (b ≡ false) × (first rs ≡ None)
-first_none true f rs e = absurd (none_some f (sym e))
+first_none true f rs e = cc
 first_none false f rs e = (refl, e)
 
 pub first_pass : (b : Bool) (f : OpenRefusal) (rs : List (Bool × OpenRefusal)) → b ≡ false → first rs ≡ None → cond b (Some f) (first rs) ≡ None
@@ -39,11 +38,11 @@ first_append (r ∷ rs) ys =
 
 -- what holds of every refusal of a table holds of the first
 pub first_holds : (P : OpenRefusal → Type 0) (rs : List (Bool × OpenRefusal)) (e : OpenRefusal) → AllByRecursion (λ r. P r.1) rs → first rs ≡ Some e → P e
-first_holds P [] e h is = absurd (none_some e is)
+first_holds P [] e h is = cc
 first_holds P (r ∷ rs) e h is =
     let Q : Bool → Type 0 = λ b. cond b (Some r.1) (first rs) ≡ Some e → P e in
     let q : Q r.0 = elim r.0 as Q [
-      | true ↦ (λ x. subst P (some_same r.1 e x) h.0)
+      | true ↦ (λ x. let same : r.1 ≡ e = cc in subst P same h.0)
       | false ↦ (λ x. first_holds P rs e h.1 x)
     ] in
     q is
@@ -197,12 +196,3 @@ among_not (x ∷ xs) a h =
     let P : Bool → Type 0 = λ t. same x a ≡ t → same x a ≡ false in
     let q : P (same x a) = elim (same x a) as P [ true ↦ (λ e. absurd (h.0 (same_true x a e))) | false ↦ (λ e. e) ] in
     or_from (same x a) (among xs a) (q refl) (among_not xs a h.1)
-
-pub among_here : (items : List Alternative) (i : ℕ) (a d : Alternative) → i < length items → same (get_or items i d) a ≡ true → among (drop i items) a ≡ true
-among_here items i a d h e = ap (λ xs. among xs a) (drop_more items i d h) ∙ or_left (same (get_or items i d) a) (among (drop (i + 1) items) a) e
-
-pub among_on : (items : List Alternative) (i : ℕ) (a d : Alternative) → i < length items → same (get_or items i d) a ≡ false → among (drop i items) a ≡ among (drop (i + 1) items) a
-among_on items i a d h e = ap (λ xs. among xs a) (drop_more items i d h) ∙ ap (λ b. b || among (drop (i + 1) items) a) e
-
-pub among_end : (items : List Alternative) (i : ℕ) (a : Alternative) → length items ≤ i → among (drop i items) a ≡ false
-among_end items i a h = ap (λ xs. among xs a) (drop_all i items h)

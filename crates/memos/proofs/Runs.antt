@@ -9,7 +9,7 @@ use Rattle.memos.specs.declared.fields.Record.{Record}
 use Rattle.memos.specs.Memos.{fields_of, bit_map, record_bytes, records_bytes, Rising, listing, Fitting}
 use Rattle.memos.specs.Rules.{first, low_after, end_from, written_at, record_of, shape_rules, field_rules, again_rules, record_rules}
 use Rattle.memos.specs.Reading.{passed, read_record, read_records}
-use Rattle.memos.proofs.Answered.{some_same, refusal, refusal_err, refusal_passed, refusal_followed, or_else}
+use Rattle.memos.proofs.Answered.{refusal, refusal_err, refusal_passed, refusal_followed, or_else}
 use Rattle.memos.proofs.Rules.{first_append}
 use Rattle.memos.proofs.Alone.{record_sound, record_complete}
 use Rattle.memos.proofs.Listings.{apart_more, new_from_apart}
@@ -44,7 +44,7 @@ first_breaks file goals sofar at e h =
     let T = shape_rules file at ++ (field_rules goals (low_after 0 sofar) at (written_at file at) ++ again_rules sofar at (record_of (low_after 0 sofar) (written_at file at))) in
     let P : Bool → Type 0 = λ t. leb 4096 (length sofar) ≡ t → cond t (Some (ManyRecords at)) (first T) ≡ Some e → Breaks 4096 file goals sofar (length sofar) (low_after 0 sofar) at e in
     let q : P (leb 4096 (length sofar)) = elim (leb 4096 (length sofar)) as P [
-      | true ↦ (λ t x. inl (leb-true 4096 (length sofar) t, some_same (ManyRecords at) e x))
+      | true ↦ (λ t x. inl (leb-true 4096 (length sofar) t, cc))
       | false ↦ (λ t x. inr (leb-false 4096 (length sofar) t, refusal_err (read_record file goals sofar (low_after 0 sofar) at) e (record_first file goals sofar (low_after 0 sofar) at ∙ x)))
     ] in
     q refl h

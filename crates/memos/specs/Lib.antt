@@ -3,7 +3,5 @@ pub mod Opens
 pub mod Reading
 pub mod Refusals
 pub mod Rules
-pub mod Slices
 pub mod Views
 pub mod Worked
-pub mod Sliced

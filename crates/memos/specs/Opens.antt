@@ -1,5 +1,5 @@
 -- What the opening of a file answers, and the laws of the format.
-use Rattle.std.specs.Prelude.{◌≡◌, ℕ, ◌<◌, ◌≤◌, ◌⊎◌, List, [], ◌++◌, length, take, Some, None, Ok, Err, Result}
+use Rattle.std.specs.Prelude.{◌≡◌, ◌≢◌, ℕ, ◌+◌, ◌<◌, ◌⊎◌, List, [], ◌∷◌, ◌++◌, length, take, slice_index_or, Some, None, Ok, Err, Result}
 use Rattle.spaces.specs.declared.space.Alternative.{Alternative}
 use Rattle.spaces.specs.Spaces.{Meaning}
 use Rattle.memos.specs.declared.fields.Record.{Record}
@@ -9,7 +9,6 @@ use Rattle.memos.specs.Memos.{Contents, WellFormed, encode, listing, space_of}
 use Rattle.memos.specs.Reading.{read_records}
 use Rattle.memos.specs.Refusals.{place_of}
 use Rattle.memos.specs.Rules.{first, header_end, header_rules, record_rules, word_at}
-use Rattle.memos.specs.Slices.{Indexed, sliced}
 
 -- ---------- the format: files and memos
 
@@ -72,15 +71,14 @@ NotOpened file e = ((e ≡ NoMemory) × Storing file) ⊎ Refused file e
 abbrev pub Stops : {X : Type 0} → Type 0 → OpenRefusal → Result X OpenRefusal → Type 0
 Stops W e r = ((e ≡ NoMemory) × W) ⊎ (r ≡ Err e)
 
--- the slices are the lists of the records that were read
-pub record Built (sofar : List Record) (items : List Alternative) (starts : List ℕ) : Type 0 where
-  pub slices : (k : ℕ) → sliced items starts k ≡ listing sofar k
-  pub indexed : Indexed items starts
-  pub count : length sofar ≡ length items
+-- The alternative of a record stands behind those of its goal, whose list is the last. The other goals' lists are as they were.
+pub record Stored (old new : List (List Alternative)) (r : Record) : Type 0 where
+  pub last : length new ≡ r.goal + 1
+  pub own : slice_index_or new r.goal [] ≡ slice_index_or old r.goal [] ++ (r.alternative ∷ [])
+  pub others : (g : ℕ) → r.goal ≢ g → slice_index_or new g [] ≡ slice_index_or old g []
 
--- all records from a place on were read
-pub record ReadAll (file : List ℕ) (goals from : ℕ) (items : List Alternative) (starts : List ℕ) : Type 0 where
+-- all records from a place on were read, and the lists hold their alternatives, goal by goal
+pub record ReadAll (file : List ℕ) (goals from : ℕ) (lists : List (List Alternative)) : Type 0 where
   pub records : List Record
   pub read : read_records 4096 file goals [] 0 from ≡ Ok records
-  pub built : Built records items starts
-  pub few : length starts ≤ goals
+  pub built : (g : ℕ) → slice_index_or lists g [] ≡ listing records g

@@ -3,7 +3,8 @@
 ghost use Rattle.std.specs.Prelude.{◌≡◌};
 ghost use Rattle.memos.specs.Reading.{read_header};
 
-use crate::fields::{Header, word_at};
+use crate::cursor::Cursor;
+use crate::fields::Header;
 use crate::refusal::OpenRefusal;
 
 const LONGEST_FILE: usize = 60_000;
@@ -17,31 +18,25 @@ pub fn read_header(file: &[u8]) -> Result<Header, OpenRefusal>
     if file.len() > LONGEST_FILE {
         return Err(OpenRefusal::LongFile);
     }
-    if file.is_empty() {
-        return Err(OpenRefusal::HeaderEnds);
-    }
-    let map = file[0];
+    let mut cursor = Cursor::new(file, 0);
+    let map = cursor.byte().ok_or(OpenRefusal::HeaderEnds)?;
     if map % 2 == 0 || map > 3 {
         return Err(OpenRefusal::HeaderBits);
     }
-    let end = 3 + 2 * usize::from(map / 2 % 2);
-    if file.len() < end {
-        return Err(OpenRefusal::HeaderEnds);
-    }
-    let goals = word_at(file, 1);
+    let goals = cursor.word().ok_or(OpenRefusal::HeaderEnds)?;
+    let root = cursor
+        .field(map / 2 % 2 == 1, Cursor::word)
+        .ok_or(OpenRefusal::HeaderEnds)?;
     if goals == 0 || goals > MOST_GOALS {
         return Err(OpenRefusal::GoalCount);
     }
-    if map / 2 % 2 == 0 {
-        return Ok(Header {
-            goals,
-            root: goals - 1,
-            end,
-        });
-    }
-    let root = word_at(file, 3);
-    if goals - 1 <= root {
+    let last = goals - 1;
+    if root.is_some_and(|root| last <= root) {
         return Err(OpenRefusal::RootWritten);
     }
-    Ok(Header { goals, root, end })
+    Ok(Header {
+        goals,
+        root: root.unwrap_or(last),
+        end: cursor.at,
+    })
 }

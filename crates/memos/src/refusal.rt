@@ -5,41 +5,42 @@ ghost use Rattle.memos.specs.Refusals.{number_of, place_of};
 ghost use Rattle.memos.specs.declared.refusal.OpenRefusal.TheVariants.{NoMemory};
 
 use std::alloc::{AllocError, AllocFailed};
+use thiserror::Error;
 
 /// Why a file is not opened: the first rule of the format that it breaks, or want of memory.
 ///
 /// The rules on records carry a place, the offset of the bit map of the record that breaks the rule.
-#[derive(Clone, Copy, PartialEq, Eq, Debug)]
+#[derive(Clone, Copy, PartialEq, Eq, Debug, Error)]
 pub enum OpenRefusal {
-    /// The file is longer than 60,000 bytes.
+    #[error("the file is longer than 60,000 bytes")]
     LongFile,
-    /// The header's bit map lacks bit 0, or has a bit above 1.
+    #[error("the header's bit map is none that a header can have")]
     HeaderBits,
-    /// The file ends inside the header.
+    #[error("the file ends inside the header")]
     HeaderEnds,
-    /// The number of goals is 0 or above 4,096.
+    #[error("the number of goals is not 1 to 4,096")]
     GoalCount,
-    /// The root is written and is not below the last goal.
+    #[error("a written root is not below the last goal")]
     RootWritten,
-    /// There are 4,096 records before this one.
+    #[error("this record comes after 4,096 others")]
     ManyRecords(usize),
-    /// The record's bit map has a bit above 4.
+    #[error("this record's bit map has a bit above 4")]
     RecordBits(usize),
-    /// The file ends inside the record.
+    #[error("the file ends inside this record")]
     RecordEnds(usize),
-    /// The first record has no goal, or a goal is written that does not exist or does not rise.
+    #[error("this record has no goal, or one that is too high or does not rise")]
     GoalOrder(usize),
-    /// The kind is above 6, or 0 and written.
+    #[error("this record's kind is above 6, or 0 and written")]
     NoKind(usize),
-    /// The children that are written are not those that the kind has.
+    #[error("this record's children do not fit its kind")]
     ChildBits(usize),
-    /// The tag is written and 0.
+    #[error("this record's tag is 0 and written")]
     ZeroTag(usize),
-    /// A child is not below the record's goal.
+    #[error("a child of this record is not below its goal")]
     ChildOrder(usize),
-    /// The goal has an equal record already.
+    #[error("this record repeats another of its goal")]
     Repeated(usize),
-    /// There is no memory for the memo.
+    #[error("there is no memory for the memo")]
     NoMemory,
 }
 
@@ -89,30 +90,9 @@ impl OpenRefusal {
             OpenRefusal::NoMemory => None,
         }
     }
-
-    /// The rule in plain words, for a message.
-    pub fn reason(&self) -> &'static str {
-        match self {
-            OpenRefusal::LongFile => "the file is longer than 60,000 bytes",
-            OpenRefusal::HeaderBits => "the header's bit map is none that a header can have",
-            OpenRefusal::HeaderEnds => "the file ends inside the header",
-            OpenRefusal::GoalCount => "the number of goals is not 1 to 4,096",
-            OpenRefusal::RootWritten => "a written root is not below the last goal",
-            OpenRefusal::ManyRecords(_) => "this record comes after 4,096 others",
-            OpenRefusal::RecordBits(_) => "this record's bit map has a bit above 4",
-            OpenRefusal::RecordEnds(_) => "the file ends inside this record",
-            OpenRefusal::GoalOrder(_) =>
-                "this record has no goal, or one that is too high or does not rise",
-            OpenRefusal::NoKind(_) => "this record's kind is above 6, or 0 and written",
-            OpenRefusal::ChildBits(_) => "this record's children do not fit its kind",
-            OpenRefusal::ZeroTag(_) => "this record's tag is 0 and written",
-            OpenRefusal::ChildOrder(_) => "a child of this record is not below its goal",
-            OpenRefusal::Repeated(_) => "this record repeats another of its goal",
-            OpenRefusal::NoMemory => "there is no memory for the memo",
-        }
-    }
 }
 
+// By hand, since what a derive writes has no contract; and twice, since `vec!` and `push` fail with errors of their own.
 impl From<AllocError> for OpenRefusal {
     ghost from_gives = { λ _ r. r ≡ NoMemory };
 

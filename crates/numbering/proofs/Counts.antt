@@ -1,5 +1,5 @@
 -- The count of a goal is the sum over its alternatives.
-use Rattle.std.proofs.Common.{◌≡◌, ℕ, zero, suc, ◌+◌, ◌*◌, ◌<◌, ◌≤◌, max, List, [], ◌∷◌, Some, None, Option, sym, refl, ◌∙◌, subst, ap₂, arith}
+use Rattle.std.proofs.Common.{◌≡◌, ℕ, zero, suc, ◌+◌, ◌*◌, ◌<◌, ◌≤◌, max, List, [], ◌∷◌, Some, None, Option, refl, subst, ap₂, arith}
 use Rattle.spaces.specs.declared.space.Alternative.{Alternative}
 use Rattle.spaces.specs.declared.kind.Kind.{Kind}
 use Rattle.spaces.specs.declared.kind.Kind.TheVariants.{Scan, IndexScan, HashJoin, MergeJoin, NestedLoops, Filter, Sort}
@@ -93,8 +93,3 @@ module _ (m : Meaning) (law : Lawful m) where
   pub size_none : size m None ≡ 0
   unfolding size
   size_none = refl
-
-  -- a table of the counts below g gives the count of g
-  pub count_from : (k : ℕ → ℕ) (g : ℕ) → ((h : ℕ) → h < g → k h ≡ count m (Some h)) → all_ways (at_due 1 k) (m.lists g) ≡ count m (Some g)
-  unfolding count
-  count_from k g same = rule_same 1 all_ways all_ways_local k (λ h. to_depth 1 all_ways m (suc h) h) g same ∙ sym (count_goal g)

@@ -1,9 +1,8 @@
 -- The cut-off goes through products, sums and the greatest, so sums of cut-off tallies are the cut-off exact ones.
-use Rattle.std.proofs.Common.{◌≡◌, ℕ, zero, suc, ◌+◌, ◌*◌, ◌<◌, ◌≤◌, min, max, List, [], ◌∷◌, drop, Some, Option, sym, refl, ap, ◌∙◌, ap₂, ⊎_elim, mul_comm, mul-zero, le-mul_of_pos_right, arith}
+use Rattle.std.proofs.Common.{◌≡◌, ℕ, zero, suc, ◌+◌, ◌*◌, ◌<◌, ◌≤◌, min, max, List, [], ◌∷◌, Some, Option, sym, refl, ap, ◌∙◌, ap₂, ⊎_elim, mul_comm, mul-zero, le-mul_of_pos_right, arith}
 use Rattle.std.proofs.lemmas.Bool.{cases_lt}
-use Rattle.std.specs.List.{slice_get}
+use Rattle.std.specs.List.{fold, slice_get}
 use Rattle.spaces.specs.declared.space.Alternative.{Alternative}
-use Rattle.spaces.specs.Places.{drop_some}
 use Rattle.numbering.specs.declared.tally.Tally.{Tally}
 use Rattle.numbering.specs.Plans.{left_due, right_due, when_live}
 use Rattle.numbering.specs.Tallies.{cut, joined, made, most_plans, of_alternative, of_list, plus}
@@ -13,7 +12,7 @@ made_is p q = cc
 
 -- ---- sums, one alternative after the other
 
-pub plus_end : (t : Tally) → t ≡ cut t → t ≡ cut (plus t (made 0 0))
+plus_end : (t : Tally) → t ≡ cut t → t ≡ cut (plus t (made 0 0))
 plus_end t h = h ∙ made_is (omega arith) (omega arith)
 
 cut_cut : (t : Tally) → cut t ≡ cut (cut t)
@@ -35,16 +34,15 @@ size_more s t r k =
 plus_more : (s t r : Tally) → cut (plus (cut (plus s (cut t))) r) ≡ cut (plus s (plus t r))
 plus_more s t r = made_is (omega arith) (size_more s.size t.size r.size 1025)
 
--- the alternative at index i has been added to the sum s: what is left to add comes to the same whole e
-pub list_step : (f : Option ℕ → Tally) (xs : List Alternative) (i : ℕ) (a : Alternative) (s u t e : Tally) → slice_get xs i ≡ Some a →
-    t ≡ cut (of_alternative f a) → u ≡ cut (plus s t) → cut (plus s (of_list f (drop i xs))) ≡ e →
-    (u ≡ cut u) × (cut (plus u (of_list f (drop (i + 1) xs))) ≡ e)
-list_step f xs i a s u t e n p q h =
-    let r : u ≡ cut (plus s (cut (of_alternative f a))) = q ∙ ap (λ v. cut (plus s v)) p in
-    let more = plus_more s (of_alternative f a) (of_list f (drop (i + 1) xs)) ∙ sym (ap (λ ys. cut (plus s (of_list f ys))) (drop_some xs i a n)) in (
-      r ∙ cut_cut (plus s (cut (of_alternative f a))) ∙ sym (ap cut r),
-      ap (λ v. cut (plus v (of_list f (drop (i + 1) xs)))) r ∙ more ∙ h,
-    )
+-- one alternative of a list after the other added to the sum s
+fold_more : (f : Option ℕ → Tally) (s : Tally) (xs : List Alternative) → s ≡ cut s → fold (λ t a. cut (plus t (cut (of_alternative f a)))) s xs ≡ cut (plus s (of_list f xs))
+fold_more f s [] h = plus_end s h
+fold_more f s (a ∷ xs) h =
+    let t = cut (plus s (cut (of_alternative f a))) in
+    fold_more f t xs (cut_cut (plus s (cut (of_alternative f a)))) ∙ plus_more s (of_alternative f a) (of_list f xs)
+
+pub fold_list : (f : Option ℕ → Tally) (z : Tally) (xs : List Alternative) → (z.count ≡ 0) × (z.size ≡ 0) → fold (λ t a. cut (plus t (cut (of_alternative f a)))) z xs ≡ cut (of_list f xs)
+fold_list f z xs h = fold_more f z xs (made_is (omega (arith, h.0)) (omega (arith, h.1))) ∙ made_is (omega (arith, h.0)) (omega (arith, h.1))
 
 -- ---- products of cut-off counts
 

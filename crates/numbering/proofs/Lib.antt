@@ -16,4 +16,5 @@ pub mod Stacks
 pub mod Standings
 pub mod Tables
 pub mod Trees
+pub mod Turns
 pub mod Writes

@@ -7,7 +7,7 @@ use Rattle.spaces.specs.Places.{none_some, some_inj}
 use Rattle.numbering.specs.declared.due.Due.{Due}
 use Rattle.numbering.specs.declared.node.Node.{Node}
 use Rattle.numbering.specs.Beginnings.{Begins, Live, due_after, due_then, goals_of}
-use Rattle.numbering.specs.Dues.{children, due, places, push}
+use Rattle.numbering.specs.Dues.{children, due, places, popped, push}
 use Rattle.numbering.specs.Numbers.{Numbers}
 use Rattle.numbering.specs.Plans.{Complete, all_ways, count, left_due, nodes, number, right_due, ways}
 use Rattle.numbering.specs.Refusals.{largest, plans}
@@ -42,6 +42,15 @@ pub record Reading (m : Meaning) (list : List Node) (place : ℕ) (s : List Due)
   pub live : 0 < plans m → AllByRecursion (HasPlan m) s
   pub begun : plans m ≡ 0 → place ≡ 0
   pub fits : place + sizes m s ≤ largest m
+
+-- ---- the goal due next
+
+module _ (m : Meaning) (list : List Node) (place read : ℕ) (s : List Due) (o : Option Due) (held : Reading m list place (popped o s) read) where
+  pub some_due : (d : Due) → o ≡ Some d → Reading m list place (d ∷ s) read
+  some_due d e = subst (λ p. Reading m list place (popped p s) read) e held
+
+  pub none_due : o ≡ None → Reading m list place [] read
+  none_due e = subst (λ p. Reading m list place (popped p s) read) e held
 
 -- ---- lists
 

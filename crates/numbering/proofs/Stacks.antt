@@ -1,12 +1,11 @@
 -- Stacks of goals due in a work buffer, and the sizes of what is due.
-use Rattle.std.proofs.Common.{◌≡◌, ℕ, zero, suc, ◌+◌, ◌-◌, ◌<◌, ◌≤◌, List, [], ◌∷◌, length, get_or, set, Some, None, Option, sym, refl, ap, ◌∙◌, ap₂, add-one, arith}
+use Rattle.std.proofs.Common.{◌≡◌, ℕ, zero, suc, ◌+◌, ◌<◌, ◌≤◌, List, [], ◌∷◌, length, set, Some, None, Option, refl, ap, ◌∙◌, ap₂, add-one, arith, length-set}
 use Rattle.std.proofs.lemmas.List.{get_or-set_other, get_or-set_same}
 use Rattle.std.specs.List.{AllByRecursion, slice_get}
 use Rattle.spaces.specs.declared.space.Alternative.{Alternative}
 use Rattle.spaces.specs.Spaces.{Lawful, Meaning}
-use Rattle.spaces.specs.Places.{none_some, some_inj}
 use Rattle.numbering.specs.declared.due.Due.{Due}
-use Rattle.numbering.specs.Dues.{children, due, places, push, stack}
+use Rattle.numbering.specs.Dues.{Pile, children, due, places, push, stack}
 use Rattle.numbering.specs.Plans.{count, left_due, right_due, size, ways}
 use Rattle.numbering.proofs.Counts.{count_goal, size_none}
 use Rattle.numbering.proofs.Picks.{place}
@@ -22,18 +21,20 @@ stack_push w i d h =
     ap (λ n. stack n (set w i d)) (add-one i)
     ∙ ap₂ (λ (x : Due) (s : List Due). x ∷ s) (get_or-set_same w i d (due 0 0) h) (stack_set i w i d (omega arith))
 
--- the step of a push
-pub stack_more : (o : Option ℕ) (g n i : ℕ) (w : List Due) → o ≡ Some g → i + places o ≤ length w → (i + 1 ≡ i + places o) × (stack (i + 1) (set w i (due g n)) ≡ push o n (stack i w))
-stack_more None g n i w e h = none_some e
-stack_more (Some f) g n i w e h = (refl, stack_push w i (due g n) (omega arith) ∙ ap (λ k. due k n ∷ stack i w) (sym (some_inj e)))
-
-pub stack_top : (w : List Due) (n : ℕ) → 0 < n → stack n w ≡ get_or w (n - 1) (due 0 0) ∷ stack (n - 1) w
-stack_top w zero h = absurd (omega arith)
-stack_top w (suc n) h = let e : n ≡ suc n - 1 = omega arith in ap (λ k. get_or w k (due 0 0) ∷ stack k w) e
-
 pub length_stack : (n : ℕ) (w : List Due) → length (stack n w) ≡ n
 length_stack zero w = refl
 length_stack (suc n) w = ap suc (length_stack n w)
+
+-- the step of a push, where the buffer w shows as the pile p
+module _ (w : List Due) (n : ℕ) (d : Due) (p : Pile) (is : record { dues = stack n w; room = length w } ≡ p) (room : length p.dues < p.room) where
+  pub push_below : n < length w
+  push_below = omega (arith, room, ap (λ (q : Pile). length q.dues) is, ap (λ (q : Pile). q.room) is, length_stack n w)
+
+  pub push_is : ◌≡◌ {A = Pile} (record { dues = stack (n + 1) (set w n d); room = length (set w n d) }) (record { dues = d ∷ p.dues; room = p.room })
+  push_is =
+      let dues = stack_push w n d push_below ∙ ap (λ (q : Pile). d ∷ q.dues) is in
+      let long = length-set w n d ∙ ap (λ (q : Pile). q.room) is in
+      λ i. record { dues = dues i; room = long i }
 
 -- ---- sizes
 

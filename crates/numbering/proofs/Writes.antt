@@ -1,5 +1,5 @@
 -- The steps of a loop that writes the plan of a number, with a stack of goals and numbers.
-use Rattle.std.proofs.Common.{◌≡◌, ℕ, ◌+◌, ◌-◌, ◌*◌, ◌/◌, ◌%◌, ◌<◌, ◌≤◌, List, [], ◌∷◌, ◌++◌, length, get_or, take, drop, set, Some, None, Option, sym, refl, ap, ◌∙◌, subst, ap₂, append_assoc, append-nil, arith}
+use Rattle.std.proofs.Common.{◌≡◌, ℕ, ◌+◌, ◌*◌, ◌/◌, ◌%◌, ◌<◌, ◌≤◌, List, [], ◌∷◌, ◌++◌, length, take, drop, set, Some, None, Option, sym, refl, ap, ◌∙◌, subst, ap₂, append_assoc, append-nil, arith}
 use native.Mathlib.Nat.{mod-add-div}
 use Rattle.std.proofs.lemmas.Nat.{div_below, mod_below}
 use Rattle.std.proofs.lemmas.List.{drop-drop, drop-set-lt, length-take-le, take-append-drop, take_more_set}
@@ -8,14 +8,14 @@ use Rattle.spaces.specs.declared.space.Alternative.{Alternative}
 use Rattle.spaces.specs.Spaces.{Lawful, Meaning}
 use Rattle.numbering.specs.declared.due.Due.{Due}
 use Rattle.numbering.specs.declared.node.Node.{Node}
-use Rattle.numbering.specs.Dues.{children, due, places, push, stack}
+use Rattle.numbering.specs.Dues.{children, due, places, push}
 use Rattle.numbering.specs.Plans.{Tree, all_ways, count, left_due, node, nodes, none, number, right_due}
 use Rattle.numbering.specs.Refusals.{largest, plans}
 use Rattle.numbering.specs.Standing.{Falls, Written}
 use Rattle.numbering.specs.Tallies.{most_nodes}
 use Rattle.numbering.proofs.Counts.{count_none, left_under, right_under}
 use Rattle.numbering.proofs.Sizes.{ways_left}
-use Rattle.numbering.proofs.Stacks.{HasPlan, all_push, length_children, length_sizes, length_stack, sizes, sizes_fall, stack_push, stack_top}
+use Rattle.numbering.proofs.Stacks.{HasPlan, all_push, length_children, length_sizes, sizes, sizes_fall}
 
 pub record Part (m : Meaning) (o : Option ℕ) (n : ℕ) (P : List Node → Type 0) (list : List Node) : Type 0 where
   pub top : Tree m o
@@ -85,87 +85,62 @@ module _ (m : Meaning) (law : Lawful m) where
 pub shared : (a : Alternative) (k c n : ℕ) (p : ℕ × ℕ) (s t : List Due) → t ≡ children a p.0 p.1 s → p ≡ (k % c, k / c) → c ≡ n → t ≡ children a (k % n) (k / n) s
 shared a k c n p s t e q h = e ∙ ap (λ (x : ℕ × ℕ). children a x.0 x.1 s) q ∙ ap (λ x. children a (k % x) (k / x) s) h
 
--- while the plan of a number is written: len nodes stand, and what the stack gives completes them
-pub record Writing (m : Meaning) (number : ℕ) (start plan : List Node) (work : List Due) (len depth : ℕ) : Type 0 where
-  pub gives : (xs : List Node) → Gives m (stack depth work) xs → Gives m (due m.root number ∷ []) (take len plan ++ xs)
-  pub good : AllByRecursion (Good m) (stack depth work)
-  pub fits : len + sizes m (stack depth work) ≤ largest m
+-- while the plan of a number is written: len nodes stand, and what the stack s gives completes them
+pub record Writing (m : Meaning) (number : ℕ) (start plan : List Node) (s : List Due) (len : ℕ) : Type 0 where
+  pub gives : (xs : List Node) → Gives m s xs → Gives m (due m.root number ∷ []) (take len plan ++ xs)
+  pub good : AllByRecursion (Good m) s
+  pub fits : len + sizes m s ≤ largest m
   pub rest : drop len plan ≡ drop len start
 
-pub writing_start : (m : Meaning) (number root : ℕ) (plan : List Node) (work : List Due) → root ≡ m.root → m.root < m.goals → number < plans m → 0 < length work →
-    Writing m number plan plan (set work 0 (due root number)) 0 1
-writing_start m number root plan work e below h room =
-    let s : stack 1 (set work 0 (due root number)) ≡ due m.root number ∷ [] = stack_push work 0 (due root number) room ∙ ap (λ r. due r number ∷ []) e in
-    record {
-      gives = λ xs r. subst (λ t. Gives m t xs) s r;
-      good = subst (AllByRecursion (Good m)) (sym s) (record { goal_below = below; number_below = h }, tt);
-      fits = omega (arith, ap (sizes m) s);
-      rest = refl;
-    }
+pub writing_start : (m : Meaning) (number root : ℕ) (plan : List Node) → root ≡ m.root → m.root < m.goals → number < plans m → Writing m number plan plan (due root number ∷ []) 0
+writing_start m number root plan e below h =
+    subst (λ r. Writing m number plan plan (due r number ∷ []) 0) (sym e)
+    (record { gives = λ xs r. r; good = (record { goal_below = below; number_below = h }, tt); fits = omega arith; rest = refl })
 
-module _ (m : Meaning) (law : Lawful m) (number : ℕ) (start plan : List Node) (work : List Due) (len depth : ℕ) (held : Writing m number start plan work len depth) (some : 0 < depth) where
-  abbrev top : Due
-  top = get_or work (depth - 1) (due 0 0)
+-- over the same stack as it is seen elsewhere
+pub writing_as : {m : Meaning} {number : ℕ} {start plan : List Node} {s t : List Due} {len : ℕ} → t ≡ s → Writing m number start plan s len → Writing m number start plan t len
+writing_as {m} {number} {start} {plan} {len = len} e held = subst (λ s. Writing m number start plan s len) (sym e) held
 
-  abbrev under : List Due
-  under = stack (depth - 1) work
+module _ (m : Meaning) (law : Lawful m) (number : ℕ) (start plan : List Node) (d : Due) (under : List Due) (len : ℕ) (held : Writing m number start plan (d ∷ under) len)
+    (a : Alternative) (k : ℕ) (falls : Falls m d.goal d.number a k) where
+  abbrev next : List Due
+  next = children a (k % count m (left_due a)) (k / count m (left_due a)) under
 
-  goods : AllByRecursion (Good m) (top ∷ under)
-  goods = subst (AllByRecursion (Good m)) (stack_top work depth some) held.good
+  next_good : AllByRecursion (Good m) next
+  next_good = good_children m law d.goal d.number a k falls under held.good.0.goal_below held.good.1
 
-  pub top_good : Good m top
-  top_good = goods.0
+  next_less : sizes m next < sizes m (d ∷ under)
+  next_less =
+      sizes_fall m law d.goal falls.index d.number (k % count m (left_due a)) (k / count m (left_due a)) a under falls.found (omega (arith, falls.within))
 
-  pub deep : depth + len ≤ largest m
-  deep = omega (arith, held.fits, length_sizes m law (stack depth work) (good_plan m (stack depth work) held.good), length_stack depth work)
+  -- the children fit on the stack
+  pub next_room : length under + (places (left_due a) + places (right_due a)) ≤ largest m
+  next_room =
+      omega (
+        arith,
+        held.fits,
+        next_less,
+        length_sizes m law next (good_plan m next next_good),
+        length_children a (k % count m (left_due a)) (k / count m (left_due a)) under,
+      )
 
-  module _ (a : Alternative) (k : ℕ) (falls : Falls m top.goal top.number a k) where
-    abbrev next : List Due
-    next = children a (k % count m (left_due a)) (k / count m (left_due a)) under
+  pub writing_more : (t : List Due) → len < length plan → t ≡ next → Writing m number start (set plan len (record { goal = d.goal; alternative = a })) t (len + 1)
+  writing_more t room e =
+      let x : Node = record { goal = d.goal; alternative = a } in
+      let whole : (xs : List Node) → take (len + 1) (set plan len x) ++ xs ≡ take len plan ++ (x ∷ xs)
+      = λ xs. ap (λ t. t ++ xs) (take_more_set plan len x room) ∙ append_assoc (take len plan) (x ∷ []) xs in
+      record {
+        gives = λ xs r.
+            subst (Gives m (due m.root number ∷ [])) (sym (whole xs)) (held.gives (x ∷ xs) (step m law d.goal d.number a k falls under xs (subst (λ s. Gives m s xs) e r)));
+        good = subst (AllByRecursion (Good m)) (sym e) next_good;
+        fits = omega (arith, ap (sizes m) e, next_less, held.fits);
+        rest = drop-set-lt (len + 1) plan len x (omega arith) ∙ sym (drop-drop 1 len plan) ∙ ap (drop 1) held.rest ∙ drop-drop 1 len start;
+      }
 
-    next_good : AllByRecursion (Good m) next
-    next_good = good_children m law top.goal top.number a k falls under top_good.goal_below goods.1
-
-    pub next_less : sizes m next < sizes m (stack depth work)
-    next_less =
-        omega (
-          arith,
-          sizes_fall m law top.goal falls.index top.number (k % count m (left_due a)) (k / count m (left_due a)) a under falls.found (omega (arith, falls.within)),
-          ap (sizes m) (stack_top work depth some),
-        )
-
-    -- the nodes written, and the children on the stack, are together no more than the largest plan has nodes
-    pub next_room : (len + 1) + ((depth - 1) + (places (left_due a) + places (right_due a))) ≤ largest m
-    next_room =
-        omega (
-          arith,
-          held.fits,
-          next_less,
-          length_sizes m law next (good_plan m next next_good),
-          length_children a (k % count m (left_due a)) (k / count m (left_due a)) under,
-          length_stack (depth - 1) work,
-        )
-
-    pub writing_more : (work' : List Due) (depth' : ℕ) → len < length plan → stack depth' work' ≡ next →
-        Writing m number start (set plan len (record { goal = top.goal; alternative = a })) work' (len + 1) depth'
-    writing_more work' depth' room e =
-        let x : Node = record { goal = top.goal; alternative = a } in
-        let whole : (xs : List Node) → take (len + 1) (set plan len x) ++ xs ≡ take len plan ++ (x ∷ xs)
-        = λ xs. ap (λ t. t ++ xs) (take_more_set plan len x room) ∙ append_assoc (take len plan) (x ∷ []) xs in
-        record {
-          gives = λ xs r.
-              subst (Gives m (due m.root number ∷ [])) (sym (whole xs))
-              (held.gives (x ∷ xs) (subst (λ s. Gives m s (x ∷ xs)) (sym (stack_top work depth some))
-              (step m law top.goal top.number a k falls under xs (subst (λ s. Gives m s xs) e r))));
-          good = subst (AllByRecursion (Good m)) (sym e) next_good;
-          fits = omega (arith, ap (sizes m) e, next_less, held.fits);
-          rest = drop-set-lt (len + 1) plan len x (omega arith) ∙ sym (drop-drop 1 len plan) ∙ ap (drop 1) held.rest ∙ drop-drop 1 len start;
-        }
-
-pub writing_end : (m : Meaning) (number : ℕ) (start plan : List Node) (work : List Due) (len depth : ℕ) → Writing m number start plan work len depth → depth ≡ 0 →
-    largest m ≤ length plan → largest m ≤ most_nodes → Written m number len start plan
-writing_end m number start plan work len depth held e room small =
-    let p = held.gives [] (subst (λ n. Gives m (stack n work) []) (sym e) refl) in
+pub writing_end : (m : Meaning) (number : ℕ) (start plan : List Node) (len : ℕ) → Writing m number start plan [] len → largest m ≤ length plan → largest m ≤ most_nodes →
+    Written m number len start plan
+writing_end m number start plan len held room small =
+    let p = held.gives [] refl in
     let short : len ≤ length plan = omega (arith, held.fits) in
     record {
       list = take len plan;
@@ -174,3 +149,8 @@ writing_end m number start plan work len depth held e room small =
       small = omega (arith, held.fits);
       buffer = sym (take-append-drop len plan) ∙ ap (λ t. take len plan ++ t) held.rest;
     }
+
+-- where as many nodes stand as the largest plan has, nothing is due
+pub writing_full : (m : Meaning) (law : Lawful m) (number : ℕ) (start plan : List Node) (s : List Due) (len : ℕ) → Writing m number start plan s len → largest m ≤ len → s ≡ []
+writing_full m law number start plan [] len held full = refl
+writing_full m law number start plan (d ∷ s) len held full = absurd (omega (arith, held.fits, length_sizes m law (d ∷ s) (good_plan m (d ∷ s) held.good)))

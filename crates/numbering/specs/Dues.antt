@@ -25,3 +25,13 @@ push (Some g) n s = due g n ∷ s
 -- the children of an alternative, with their numbers, on top of a stack: the left one comes first
 abbrev pub children : Alternative → ℕ → ℕ → List Due → List Due
 children a x y s = push (left_due a) x (push (right_due a) y s)
+
+-- a work buffer as a stack: the goals due, the next one first, and how many it holds
+pub record Pile : Type 0 where
+  pub dues : List Due
+  pub room : ℕ
+
+-- the goals due before one of them was taken off; where there was none, none is left
+abbrev pub popped : Option Due → List Due → List Due
+popped None s = []
+popped (Some d) s = d ∷ s

@@ -59,6 +59,10 @@ Within n (Some g) = g < n
 abbrev pub filled : Meaning → ℕ → List Tally → List Tally
 filled m n ts = map (tally m) (range_with_len 0 n) ++ drop n ts
 
+-- a goal has too many plans, as its tally tells
+abbrev pub many : Tally → Bool
+many t = nat_lt most_plans t.count
+
 -- one of the goals below n has too many plans
 abbrev pub over : Meaning → ℕ → Bool
 over m zero = false

@@ -1,10 +1,11 @@
 //! How many plans a space holds, and how large the largest is.
 
-ghost use Rattle.std.specs.Prelude.{◌≡◌, ◌≤◌, length, IfOk, nat_lt};
+ghost use Rattle.std.specs.Prelude.{◌≡◌, ◌≤◌, length, IfOk};
+ghost use Rattle.std.specs.List.{list_any};
 ghost use Rattle.numbering.specs.Census.{Census};
 ghost use Rattle.numbering.specs.Plans.{left_due, right_due};
 ghost use Rattle.numbering.specs.Refusals.{after_tally, answered, count_checks, first_of, largest, plans};
-ghost use Rattle.numbering.specs.Tallies.{cut, filled, joined as joined_exactly, look, most_nodes, of_alternative, of_list, over as is_over, plus, Within};
+ghost use Rattle.numbering.specs.Tallies.{cut, filled, joined as joined_exactly, look, many, of_alternative, of_list, plus};
 
 use crate::dues::{left_due, right_due};
 use crate::refusal::Refusal;
@@ -17,13 +18,12 @@ pub const MOST_PLANS: u64 = 1_000_000_000_000_000_000;
 /// The most nodes of a plan that the bench writes.
 pub const MOST_NODES: u16 = 1024;
 
-/// The tally of what is due at a child's place.
+/// The tally of what is due at a child's place, where a goal past the end of `tallies` has no plans.
 pub(crate) fn due_tally(tallies: &[Tally], due: Option<u16>) -> Tally
-    requires { Within (length tallies.now) due }
     ensures { result ≡ look tallies.now due }
 {
     match due {
-        Some(goal) => tallies[goal as usize],
+        Some(goal) => tallies.get(usize::from(goal)).copied().unwrap_or_default(),
         None => Tally { count: 1, size: 0 },
     }
 }
@@ -34,7 +34,7 @@ fn joined(left: Tally, right: Tally) -> Tally
 {
     let count = left.count.saturating_mul(right.count);
     if count == 0 {
-        return Tally { count: 0, size: 0 };
+        return Tally::default();
     }
     let size = left.size.saturating_add(right.size).saturating_add(1);
     Tally {
@@ -54,8 +54,7 @@ fn sum(a: Tally, b: Tally) -> Tally
 }
 
 /// The tally of an alternative, where `tallies` has those of the goals below.
-pub(crate) fn alternative_tally(tallies: &[Tally], alternative: Alternative) -> Tally
-    requires { (Within (length tallies.now) (left_due alternative)) × (Within (length tallies.now) (right_due alternative)) }
+fn alternative_tally(tallies: &[Tally], alternative: Alternative) -> Tally
     ensures { result ≡ cut (of_alternative (look tallies.now) alternative) }
 {
     joined(
@@ -66,38 +65,30 @@ pub(crate) fn alternative_tally(tallies: &[Tally], alternative: Alternative) -> 
 
 /// The tally of a goal, where `tallies` has those of the goals below it.
 fn goal_tally<S: Space>(space: &S, goal: u16, tallies: &[Tally]) -> Tally
-    requires { goal ≤ length tallies.now }
     ensures { result ≡ cut (of_list (look tallies.now) ((S.meaning space.now).lists goal)) }
 {
-    let mut total = Tally { count: 0, size: 0 };
-    for index in 0..space.width(goal) {
-        if let Some(alternative) = space.alternative(goal, index) {
-            total = sum(total, alternative_tally(tallies, alternative));
-        }
-    }
-    total
+    space
+        .alternatives(goal)
+        .fold(Tally::default(), |total, alternative| {
+            sum(total, alternative_tally(tallies, alternative))
+        })
 }
 
-/// Writes the tally of each goal, and tells whether some goal has too many plans.
-fn fill<S: Space>(space: &S, goals: u16, tallies: &mut [Tally]) -> bool
-    requires { (goals ≡ (S.meaning space.now).goals) × (goals ≤ length tallies.old) }
-    ensures over { result ≡ is_over (S.meaning space.now) goals }
-    ensures filled { tallies.new ≡ filled (S.meaning space.now) goals tallies.old }
+/// Writes the tally of each goal.
+fn fill<S: Space>(space: &S, tallies: &mut [Tally])
+    requires { (S.meaning space.now).goals ≤ length tallies.old }
+    ensures { tallies.new ≡ filled (S.meaning space.now) (S.meaning space.now).goals tallies.old }
 {
-    let mut over = false;
-    for goal in 0..goals {
-        let tally = goal_tally(space, goal, tallies);
-        tallies[goal as usize] = tally;
-        over = over | (tally.count > MOST_PLANS);
+    for goal in 0..space.goals() {
+        tallies[usize::from(goal)] = goal_tally(space, goal, tallies);
     }
-    over
 }
 
-/// Whether plans of this size are larger than the bench writes.
-fn too_large(size: u16) -> bool
-    ensures { result ≡ nat_lt most_nodes size }
+/// Whether some goal has more plans than the bench numbers.
+fn too_many(tallies: &[Tally]) -> bool
+    ensures { result ≡ list_any many tallies.now }
 {
-    size > MOST_NODES
+    tallies.iter().any(|tally| tally.count > MOST_PLANS)
 }
 
 /// How many complete plans the space holds, and how many nodes the largest has.
@@ -109,18 +100,20 @@ pub fn count<S: Space>(space: &S, tallies: &mut [Tally]) -> Result<(u64, u16), R
     ensures tallies { tallies.new ≡ after_tally (S.meaning space.now) tallies.old }
     ensures census { IfOk result (λ p. Census (S.meaning space.now) p.0 p.1) }
 {
-    let goals = space.goals();
+    let goals = usize::from(space.goals());
     if goals == 0 {
         return Err(Refusal::NoGoals);
     }
-    if tallies.len() < goals as usize {
+    if tallies.len() < goals {
         return Err(Refusal::TalliesShort);
     }
-    if fill(space, goals, tallies) {
+    fill(space, tallies);
+    let filled = &tallies[..goals];
+    if too_many(filled) {
         return Err(Refusal::TooManyPlans);
     }
-    let root = tallies[space.root() as usize];
-    if too_large(root.size) {
+    let root = filled[usize::from(space.root())];
+    if root.size > MOST_NODES {
         return Err(Refusal::PlansTooLarge);
     }
     Ok((root.count, root.size))

@@ -2,7 +2,7 @@
 ///
 /// While a plan is written it is the number of the plan wanted for the goal. While a list is ranked
 /// it is the weight that the number of the goal's plan has in the number of the whole.
-#[derive(Clone, Copy, PartialEq, Eq, Debug)]
+#[derive(Clone, Copy, PartialEq, Eq, Debug, Default)]
 pub struct Due {
     pub goal: u16,
     pub number: u64,

@@ -1,4 +1,5 @@
-//! What is due at the children's places of an alternative: a goal, or nothing.
+//! What is due at the children's places of an alternative: a goal, or nothing. A function for each side, since
+//! a side as an argument would put a number in place of a name.
 
 ghost use Rattle.std.specs.Prelude.{◌≡◌};
 ghost use Rattle.numbering.specs.Plans.{left_due, right_due};
@@ -9,20 +10,12 @@ use spaces::space::Alternative;
 pub fn left_due(alternative: Alternative) -> Option<u16>
     ensures { result ≡ left_due alternative }
 {
-    if alternative.kind.arity() >= 1 {
-        Some(alternative.left)
-    } else {
-        None
-    }
+    (alternative.kind.arity() >= 1).then_some(alternative.left)
 }
 
 /// The goal of the right child.
 pub fn right_due(alternative: Alternative) -> Option<u16>
     ensures { result ≡ right_due alternative }
 {
-    if alternative.kind.arity() == 2 {
-        Some(alternative.right)
-    } else {
-        None
-    }
+    (alternative.kind.arity() == 2).then_some(alternative.right)
 }

@@ -1,10 +1,10 @@
 //! Plans and their numbers over any space.
 #![tactic(auto)]
 
+pub mod counted;
 pub mod counting;
 pub mod due;
 pub mod dues;
-pub mod lookup;
 pub mod node;
 pub mod ranking;
 pub mod reading;
@@ -12,6 +12,7 @@ pub mod ready;
 pub mod refusal;
 mod stack;
 pub mod standing;
+pub mod tallied;
 pub mod tally;
 pub mod unranking;
 pub mod writing;

@@ -10,6 +10,7 @@ use crate::node::Node;
 use crate::reading::number_of;
 use crate::ready::ready_to_rank;
 use crate::refusal::Refusal;
+use crate::tallied::Tallied;
 use crate::tally::Tally;
 use spaces::space::Space;
 
@@ -28,5 +29,5 @@ pub fn rank<S: Space>(
     ensures numbering { Numbering (S.meaning space.now) }
 {
     ready_to_rank(space, tallies, work.len())?;
-    number_of(space, nodes, tallies, work)
+    number_of(&Tallied { space, tallies }, nodes, work)
 }

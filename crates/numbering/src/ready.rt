@@ -21,7 +21,7 @@ pub fn ready_to_rank<S: Space>(
     ensures standing { OnOk result (Standing (S.meaning space.now) tallies.new × (largest (S.meaning space.now) ≤ work)) }
 {
     let (plans, size) = count(space, tallies)?;
-    if work < size as usize {
+    if work < usize::from(size) {
         return Err(Refusal::WorkShort);
     }
     Ok((plans, size))
@@ -39,7 +39,7 @@ pub fn ready_to_write<S: Space>(
     ensures standing { OnOk result (Standing (S.meaning space.now) tallies.new × (largest (S.meaning space.now) ≤ work) × (largest (S.meaning space.now) ≤ plan)) }
 {
     let (plans, size) = ready_to_rank(space, tallies, work)?;
-    if plan < size as usize {
+    if plan < usize::from(size) {
         return Err(Refusal::PlanShort);
     }
     Ok((plans, size))

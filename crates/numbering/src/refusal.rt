@@ -1,37 +1,39 @@
 ghost use Rattle.std.specs.Prelude.{◌≡◌};
 ghost use Rattle.numbering.specs.Refusals.{number as number_of, place as place_of};
 
+use thiserror::Error;
+
 /// Why a call on a space is refused. A place is how many nodes of the list fit.
-#[derive(Clone, Copy, PartialEq, Eq, Debug)]
+#[derive(Clone, Copy, PartialEq, Eq, Debug, Error)]
 pub enum Refusal {
-    /// The space has no goals.
+    #[error("the space has no goals")]
     NoGoals,
-    /// The tally buffer has fewer entries than there are goals.
+    #[error("the tally buffer is shorter than the number of goals")]
     TalliesShort,
-    /// Some goal has more than 10^18 plans.
+    #[error("some goal has more than 10^18 plans")]
     TooManyPlans,
-    /// The largest plan has more than 1,024 nodes.
+    #[error("the largest plan has more than 1,024 nodes")]
     PlansTooLarge,
-    /// The work buffer has fewer entries than the largest plan has nodes.
+    #[error("the work buffer is shorter than the largest plan")]
     WorkShort,
-    /// The plan buffer has fewer entries than the largest plan has nodes.
+    #[error("the plan buffer is shorter than the largest plan")]
     PlanShort,
-    /// The space has no plan with this number.
+    #[error("there is no plan with this number")]
     NoSuchPlan,
-    /// The node at the place is for another goal than the one due.
+    #[error("the node's goal is not the one due")]
     OtherGoal(usize),
-    /// The node at the place is for the goal due, but is no alternative of it that has a plan.
+    #[error("the node is no alternative of the goal due that has a plan")]
     NoLiveAlternative(usize),
-    /// The list ends at the place, where a goal is still due.
+    #[error("the list ends before the plan is complete")]
     ListEnds(usize),
-    /// The plan is complete at the place, where a node follows.
+    #[error("nodes follow a complete plan")]
     NodesFollow(usize),
-    /// The text does not fit into its buffer.
+    #[error("the text buffer is shorter than the text")]
     TextShort,
 }
 
 impl Refusal {
-    /// The refusal's number.
+    /// The refusal's number. A method and no `From`, as at the refusals of which some have none.
     pub fn number(self) -> u8
         ensures { result ≡ number_of self }
     {
@@ -61,25 +63,6 @@ impl Refusal {
             Refusal::ListEnds(place) => Some(place),
             Refusal::NodesFollow(place) => Some(place),
             _ => None,
-        }
-    }
-
-    /// The refusal in plain words.
-    pub fn reason(self) -> &'static str {
-        match self {
-            Refusal::NoGoals => "the space has no goals",
-            Refusal::TalliesShort => "the tally buffer is shorter than the number of goals",
-            Refusal::TooManyPlans => "some goal has more than 10^18 plans",
-            Refusal::PlansTooLarge => "the largest plan has more than 1,024 nodes",
-            Refusal::WorkShort => "the work buffer is shorter than the largest plan",
-            Refusal::PlanShort => "the plan buffer is shorter than the largest plan",
-            Refusal::NoSuchPlan => "there is no plan with this number",
-            Refusal::OtherGoal(_) => "the node's goal is not the one due",
-            Refusal::NoLiveAlternative(_) =>
-                "the node is no alternative of the goal due that has a plan",
-            Refusal::ListEnds(_) => "the list ends before the plan is complete",
-            Refusal::NodesFollow(_) => "nodes follow a complete plan",
-            Refusal::TextShort => "the text buffer is shorter than the text",
         }
     }
 }

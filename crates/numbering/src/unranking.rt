@@ -9,6 +9,7 @@ use crate::due::Due;
 use crate::node::Node;
 use crate::ready::ready_to_write;
 use crate::refusal::Refusal;
+use crate::tallied::Tallied;
 use crate::tally::Tally;
 use crate::writing::write_plan;
 use spaces::space::Space;
@@ -33,5 +34,6 @@ pub fn unrank<S: Space>(
     if number >= plans {
         return Err(Refusal::NoSuchPlan);
     }
-    Ok(write_plan(space, number, tallies, work, plan))
+    let counted = Tallied { space, tallies };
+    Ok(write_plan(&counted, number, work, plan))
 }

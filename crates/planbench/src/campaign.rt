@@ -1,12 +1,11 @@
 //! The command `campaign`.
 
 use crate::conducting::run_campaign;
-use crate::engine_words::{EngineWord, read_engine};
+use crate::engine_words::EngineWord;
 use crate::failure::Failure;
 use crate::pile::{Pile, Task};
 use crate::room::Room;
-use crate::words;
-use crate::words::Words;
+use crate::words::{Words, number, numbers};
 use engines::cover::{Cover, Covered};
 use engines::rows::Rows;
 use spaces::space::Space;
@@ -34,85 +33,81 @@ struct Campaign<'a> {
 }
 
 impl Task for Campaign<'_> {
-    fn run<S: Space>(&self, rt: &HostRuntime, space: &S) -> Result<(), Failure> {
+    fn run<S: Space + Drop>(&self, rt: &HostRuntime, space: S) -> Result<(), Failure> {
         let heap = rt.alloc();
-        let mut room = Room::new(heap, space)?;
+        let mut room = Room::new(heap, &space)?;
         match self.engine {
             EngineWord::Cover => {
-                let blank = Covered {
-                    relations: 0,
-                    sorted: false,
-                };
-                let mut values = vec![in heap; blank; room.largest]?;
-                run_campaign(rt, space, &Cover, self.request, &mut room, &mut values)
+                let mut values = vec![in heap; Covered::default(); room.largest]?;
+                run_campaign(rt, &space, &Cover, self.request, &mut room, &mut values)
             }
             EngineWord::Rows(counts) => {
-                let engine = Rows::new(words::numbers(heap, counts)?);
+                let engine = Rows::new(numbers(heap, counts)?);
                 let mut values = vec![in heap; 0u64; room.largest]?;
-                run_campaign(rt, space, &engine, self.request, &mut room, &mut values)
+                run_campaign(rt, &space, &engine, self.request, &mut room, &mut values)
             }
         }
     }
 }
 
-/// The words of a campaign, as they come in.
-#[derive(Clone, Copy)]
+/// The options of a campaign, as they come in.
+#[derive(Clone, Copy, Default)]
 struct Options<'a> {
     engine: Option<EngineWord<'a>>,
     start: Option<u64>,
     step: Option<u64>,
     baseline: Option<u64>,
     draws: Option<u64>,
-    finds: u64,
+    finds: Option<u64>,
 }
 
-fn read_options<'a>(words: &mut Words<'a>) -> Result<Options<'a>, Failure> {
-    let mut options = Options {
-        engine: None,
-        start: None,
-        step: None,
-        baseline: None,
-        draws: None,
-        finds: FINDS,
-    };
-    for _ in 0..words.left() {
-        let Some(name) = words.next() else {
-            break;
-        };
-        let value = words.wanted("an option of campaign wants a value")?;
+impl<'a> Options<'a> {
+    /// Takes one option.
+    fn set(&mut self, name: &str, value: &'a str) -> Result<(), Failure> {
         match name {
-            "--engine" => options.engine = Some(read_engine(value)?),
-            "--start" => options.start = Some(words::number(value)?),
-            "--step" => options.step = Some(words::number(value)?),
-            "--baseline" => options.baseline = Some(words::number(value)?),
-            "--draws" => options.draws = Some(words::number(value)?),
-            "--finds" => options.finds = words::number(value)?,
+            "--engine" => self.engine = Some(value.try_into()?),
+            "--start" => self.start = Some(number(value)?),
+            "--step" => self.step = Some(number(value)?),
+            "--baseline" => self.baseline = Some(number(value)?),
+            "--draws" => self.draws = Some(number(value)?),
+            "--finds" => self.finds = Some(number(value)?),
             _ => return Err(Failure::Usage("there is no such option of campaign")),
         }
+        Ok(())
     }
-    Ok(options)
-}
 
-fn required(number: Option<u64>, missing: &'static str) -> Result<u64, Failure> {
-    match number {
-        Some(n) => Ok(n),
-        None => Err(Failure::Usage(missing)),
+    /// Reads all options.
+    fn read(words: &mut Words<'a>) -> Result<Options<'a>, Failure> {
+        let mut options = Options::default();
+        for pair in words.rest().chunks(2) {
+            let [name, value] = pair else {
+                return Err(Failure::Usage("an option of campaign wants a value"));
+            };
+            options.set(name.as_str(), value.as_str())?;
+        }
+        Ok(options)
     }
 }
 
 /// `campaign SPACE --engine ENGINE --start N --step N --baseline N [--draws N] [--finds N]`
 pub fn run_campaign_words(rt: &HostRuntime, words: &mut Words) -> Result<(), Failure> {
     let pile = Pile::read(words)?;
-    let options = read_options(words)?;
-    let Some(engine) = options.engine else {
-        return Err(Failure::Usage("campaign wants an --engine"));
-    };
+    let options = Options::read(words)?;
+    let engine = options
+        .engine
+        .ok_or(Failure::Usage("campaign wants an --engine"))?;
     let request = Request {
-        start: required(options.start, "campaign wants a --start")?,
-        step: required(options.step, "campaign wants a --step")?,
-        baseline: required(options.baseline, "campaign wants a --baseline")?,
+        start: options
+            .start
+            .ok_or(Failure::Usage("campaign wants a --start"))?,
+        step: options
+            .step
+            .ok_or(Failure::Usage("campaign wants a --step"))?,
+        baseline: options
+            .baseline
+            .ok_or(Failure::Usage("campaign wants a --baseline"))?,
         draws: options.draws,
-        finds: options.finds,
+        finds: options.finds.unwrap_or(FINDS),
     };
-    pile.run(rt, &Campaign { engine, request })
+    pile.run(rt, Campaign { engine, request })
 }

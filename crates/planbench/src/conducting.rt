@@ -4,8 +4,8 @@ use crate::campaign::Request;
 use crate::failure::Failure;
 use crate::plan::print_report;
 use crate::room::Room;
+use campaigns::campaign::Ready;
 use campaigns::campaign::making::make;
-use campaigns::campaign::{NotDrawn, NotRun, Ready};
 use campaigns::conduct::{Stopped, conduct};
 use campaigns::counts::Counts;
 use campaigns::refusal::CampaignRefusal;
@@ -26,28 +26,14 @@ struct Ended {
 }
 
 /// The end of a campaign at a refused call: that every plan is drawn is no failure.
-fn end_of(stopped: Stopped) -> Ended {
-    match stopped {
-        Stopped::AtDraw(refused) => {
-            let NotDrawn { ready, why } = refused;
-            let why = match why {
-                CampaignRefusal::AllDrawn => None,
-                _ => Some(why),
-            };
-            Ended {
-                counts: ready.close(),
-                why,
-            }
-        }
-        Stopped::AtRun(refused) => {
-            let NotRun { pending, why } = refused;
-            let counts = pending.counts();
-            pending.skip().close();
-            Ended {
-                counts,
-                why: Some(why),
-            }
-        }
+impl From<Stopped> for Ended {
+    fn from(stopped: Stopped) -> Ended {
+        let (counts, why) = stopped.close();
+        let why = match why {
+            CampaignRefusal::AllDrawn => None,
+            _ => Some(why),
+        };
+        Ended { counts, why }
     }
 }
 
@@ -80,7 +66,7 @@ fn conduct_in_parts<S: Space, E: Engine>(
             finds,
         ) {
             Ok(next) => state = next,
-            Err(stopped) => return end_of(stopped),
+            Err(stopped) => return stopped.into(),
         }
         left -= now;
         if draws > LONG {

@@ -2,9 +2,8 @@
 
 use crate::failure::Failure;
 use crate::pile::{Pile, Task};
+use crate::room::Room;
 use crate::words::Words;
-use numbering::counting;
-use numbering::tally::Tally;
 use spaces::space::Space;
 
 /// Prints how many plans a space holds and how large the largest is.
@@ -12,10 +11,9 @@ use spaces::space::Space;
 struct Count;
 
 impl Task for Count {
-    fn run<S: Space>(&self, rt: &HostRuntime, space: &S) -> Result<(), Failure> {
-        let mut tallies = vec![in rt.alloc(); Tally { count: 0, size: 0 }; space.goals() as usize]?;
-        let (plans, largest) = counting::count(space, &mut tallies)?;
-        println!(rt; "plans {plans}\nlargest {largest}")?;
+    fn run<S: Space + Drop>(&self, rt: &HostRuntime, space: S) -> Result<(), Failure> {
+        let room = Room::new(rt.alloc(), &space)?;
+        println!(rt; "plans {}\nlargest {}", room.plans, room.largest)?;
         Ok(())
     }
 }
@@ -24,5 +22,5 @@ impl Task for Count {
 pub fn run_count(rt: &HostRuntime, words: &mut Words) -> Result<(), Failure> {
     let pile = Pile::read(words)?;
     words.end()?;
-    pile.run(rt, &Count)
+    pile.run(rt, Count)
 }

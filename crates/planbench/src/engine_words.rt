@@ -10,14 +10,18 @@ pub enum EngineWord<'a> {
 }
 
 /// `cover`, or `rows:` and row counts.
-pub fn read_engine(word: &str) -> Result<EngineWord<'_>, Failure> {
-    if word == "cover" {
-        return Ok(EngineWord::Cover);
-    }
-    match word.strip_prefix("rows:") {
-        Some(counts) => Ok(EngineWord::Rows(counts)),
-        None => Err(Failure::Usage(
-            "an engine is cover, or rows: and row counts with commas between",
-        )),
+impl<'a> TryFrom<&'a str> for EngineWord<'a> {
+    type Error = Failure;
+
+    fn try_from(word: &'a str) -> Result<EngineWord<'a>, Failure> {
+        if word == "cover" {
+            return Ok(EngineWord::Cover);
+        }
+        match word.strip_prefix("rows:") {
+            Some(counts) => Ok(EngineWord::Rows(counts)),
+            None => Err(Failure::Usage(
+                "an engine is cover, or rows: and row counts with commas between",
+            )),
+        }
     }
 }

@@ -8,22 +8,18 @@ use std::alloc::{AllocError, AllocFailed};
 use std::{fmt, io};
 use texts::error::TextError;
 
-/// A refusal as it is told: its number, its place where it has one, and the reason in words.
-#[derive(Clone, Copy)]
-pub struct Told {
-    pub number: u8,
-    pub place: Option<usize>,
-    pub reason: &'static str,
-}
-
+/// Its text and its `From`s are by hand, since `thiserror` prints no number that a method gives.
 #[derive(Drop)]
 pub enum Failure {
     /// The command line is not one of those that the usage text shows.
     Usage(&'static str),
-    /// A call was refused.
-    Refused(Told),
+    Make(MakeRefusal),
+    /// A file is not opened, for the reason that has this number.
+    Open(u8, OpenRefusal),
+    Call(Refusal),
+    Campaign(CampaignRefusal),
     /// The text of a plan stops making sense at a byte.
-    Text(usize, &'static str),
+    Text(usize, TextError),
     /// A line of a node file, counted from 0, is no node.
     Line(usize),
     NoMemory,
@@ -33,92 +29,79 @@ pub enum Failure {
     Io(io::Error),
 }
 
-impl fmt::Display for Failure {
-    fn fmt<W: fmt::Write>(&self, f: &mut fmt::Formatter<W>) -> fmt::Result {
-        match self {
-            Failure::Usage(reason) => write!(f, "{reason}"),
-            Failure::Refused(told) => told.fmt(f),
-            Failure::Text(byte, reason) => {
-                write!(
-                    f,
-                    "the plan's text stops making sense at byte {byte}: {reason}"
-                )
-            }
-            Failure::Line(line) => {
-                write!(
-                    f,
-                    "line {line} of the nodes, from 0, is not goal, letter, tag, left and right goal"
-                )
-            }
-            Failure::NoMemory => write!(f, "out of memory"),
-            Failure::Unread(e) => write!(f, "cannot read the file: {e}"),
-            Failure::Io(e) => write!(f, "{e}"),
-        }
+/// A refusal with its number, and its place where it has one.
+fn refused<W: fmt::Write, R: fmt::Display>(
+    f: &mut fmt::Formatter<W>,
+    number: u8,
+    place: Option<usize>,
+    reason: &R,
+) -> fmt::Result {
+    match place {
+        Some(place) => write!(f, "refused {number} at {place}: {reason}"),
+        None => write!(f, "refused {number}: {reason}"),
     }
 }
 
-impl fmt::Display for Told {
+impl fmt::Display for Failure {
     fn fmt<W: fmt::Write>(&self, f: &mut fmt::Formatter<W>) -> fmt::Result {
-        let number = self.number;
-        let reason = self.reason;
-        match self.place {
-            Some(place) => write!(f, "refused {number} at {place}: {reason}"),
-            None => write!(f, "refused {number}: {reason}"),
+        match self {
+            Failure::Usage(reason) => f.write_str(reason),
+            Failure::Make(why) => refused(f, why.number(), None, why),
+            Failure::Open(number, why) => refused(f, *number, why.place(), why),
+            Failure::Call(why) => refused(f, why.number(), why.place(), why),
+            Failure::Campaign(why) => refused(f, why.number(), None, why),
+            Failure::Text(byte, why) => {
+                write!(
+                    f,
+                    "the plan's text stops making sense at byte {byte}: {why}"
+                )
+            }
+            Failure::Line(line) => write!(
+                f,
+                "line {line} of the nodes, from 0, is not goal, letter, tag, left and right goal"
+            ),
+            Failure::NoMemory => f.write_str("out of memory"),
+            Failure::Unread(e) => write!(f, "cannot read the file: {e}"),
+            Failure::Io(e) => e.fmt(f),
         }
     }
 }
 
 impl From<MakeRefusal> for Failure {
-    fn from(refusal: MakeRefusal) -> Failure {
-        Failure::Refused(Told {
-            number: refusal.number(),
-            place: None,
-            reason: refusal.reason(),
-        })
+    fn from(why: MakeRefusal) -> Failure {
+        Failure::Make(why)
     }
 }
 
 /// A refusal without a number is want of memory.
 impl From<OpenRefusal> for Failure {
-    fn from(refusal: OpenRefusal) -> Failure {
-        let Some(number) = refusal.number() else {
-            return Failure::NoMemory;
-        };
-        Failure::Refused(Told {
-            number,
-            place: refusal.place(),
-            reason: refusal.reason(),
-        })
+    fn from(why: OpenRefusal) -> Failure {
+        match why.number() {
+            Some(number) => Failure::Open(number, why),
+            None => Failure::NoMemory,
+        }
     }
 }
 
 /// An error without a place is want of memory.
 impl From<TextError> for Failure {
-    fn from(e: TextError) -> Failure {
-        match e.place() {
-            Some(byte) => Failure::Text(byte, e.reason()),
+    fn from(why: TextError) -> Failure {
+        match why.place() {
+            Some(byte) => Failure::Text(byte, why),
             None => Failure::NoMemory,
         }
     }
 }
 
 impl From<Refusal> for Failure {
-    fn from(refusal: Refusal) -> Failure {
-        Failure::Refused(Told {
-            number: refusal.number(),
-            place: refusal.place(),
-            reason: refusal.reason(),
-        })
+    fn from(why: Refusal) -> Failure {
+        Failure::Call(why)
     }
 }
 
 impl From<CampaignRefusal> for Failure {
-    fn from(refusal: CampaignRefusal) -> Failure {
-        Failure::Refused(Told {
-            number: refusal.number(),
-            place: None,
-            reason: refusal.reason(),
-        })
+    fn from(why: CampaignRefusal) -> Failure {
+        Failure::Campaign(why)
     }
 }
 

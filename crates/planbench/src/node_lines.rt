@@ -2,34 +2,18 @@
 
 use crate::failure::Failure;
 use crate::input::read_text;
+use crate::words::lone_kind;
 use numbering::node::Node;
-use spaces::kind::Kind;
 use spaces::space::Alternative;
-
-fn field(word: Option<&str>) -> Option<u16> {
-    match word?.parse::<u16>() {
-        Ok(n) => Some(n),
-        Err(_) => None,
-    }
-}
-
-fn letter(word: Option<&str>) -> Option<Kind> {
-    let bytes = word?.as_bytes();
-    if bytes.len() == 1 {
-        Kind::from_letter(bytes[0])
-    } else {
-        None
-    }
-}
 
 /// The node of a line, if it has the five fields and no more.
 fn node(line: &str) -> Option<Node> {
     let mut fields = line.split_whitespace();
-    let goal = field(fields.next())?;
-    let kind = letter(fields.next())?;
-    let tag = field(fields.next())?;
-    let left = field(fields.next())?;
-    let right = field(fields.next())?;
+    let goal = fields.next()?.parse().ok()?;
+    let kind = lone_kind(fields.next()?)?;
+    let tag = fields.next()?.parse().ok()?;
+    let left = fields.next()?.parse().ok()?;
+    let right = fields.next()?.parse().ok()?;
     if fields.next().is_some() {
         return None;
     }
@@ -48,11 +32,11 @@ fn node(line: &str) -> Option<Node> {
 pub fn read_node_lines(rt: &HostRuntime, name: &str) -> Result<Vec<Node>, Failure> {
     let text = read_text(rt, name)?;
     let mut nodes = Vec::new(rt.alloc());
-    for line in text.lines() {
-        match node(line) {
-            Some(node) => nodes.push(node)?,
-            None => return Err(Failure::Line(nodes.len())),
-        }
+    for (number, line) in text.lines().enumerate() {
+        let Some(node) = node(line) else {
+            return Err(Failure::Line(number));
+        };
+        nodes.push(node)?;
     }
     Ok(nodes)
 }

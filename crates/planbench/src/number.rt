@@ -17,9 +17,9 @@ struct Number {
 }
 
 impl Task for Number {
-    fn run<S: Space>(&self, rt: &HostRuntime, space: &S) -> Result<(), Failure> {
-        let mut room = Room::new(rt.alloc(), space)?;
-        let number = rank(space, &self.nodes, &mut room.tallies, &mut room.work)?;
+    fn run<S: Space + Drop>(&self, rt: &HostRuntime, space: S) -> Result<(), Failure> {
+        let mut room = Room::new(rt.alloc(), &space)?;
+        let number = rank(&space, &self.nodes, &mut room.tallies, &mut room.work)?;
         println!(rt; "{number}")?;
         Ok(())
     }
@@ -37,5 +37,5 @@ pub fn run_number(rt: &HostRuntime, words: &mut Words) -> Result<(), Failure> {
         )?
     };
     words.end()?;
-    pile.run(rt, &Number { nodes })
+    pile.run(rt, Number { nodes })
 }

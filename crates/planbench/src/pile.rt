@@ -2,8 +2,7 @@
 
 use crate::failure::Failure;
 use crate::input::read_bytes;
-use crate::words;
-use crate::words::Words;
+use crate::words::{Words, kinds, lone_kind, number};
 use memos::memo::Memo;
 use spaces::bushy::Bushy;
 use spaces::filter::KindFilter;
@@ -14,7 +13,41 @@ use spaces::space::Space;
 
 /// What is done with a space once it stands.
 pub trait Task {
-    fn run<S: Space>(&self, rt: &HostRuntime, space: &S) -> Result<(), Failure>;
+    fn run<S: Space + Drop>(&self, rt: &HostRuntime, space: S) -> Result<(), Failure>;
+}
+
+/// A task over a space with a filter laid over it, if there is one.
+#[derive(Drop)]
+struct Filtered<T> {
+    mask: Option<KindMask>,
+    task: T,
+}
+
+impl<T: Task> Task for Filtered<T> {
+    fn run<S: Space + Drop>(&self, rt: &HostRuntime, space: S) -> Result<(), Failure> {
+        match self.mask {
+            Some(mask) => self.task.run(rt, KindFilter::new(space, mask)),
+            None => self.task.run(rt, space),
+        }
+    }
+}
+
+/// A task over a space with an order laid over it, if there is one.
+///
+/// One struct for each layer: a trait over both would need an associated type with a parameter.
+#[derive(Drop)]
+struct Ordered<T> {
+    wish: Option<Order>,
+    task: T,
+}
+
+impl<T: Task> Task for Ordered<T> {
+    fn run<S: Space + Drop>(&self, rt: &HostRuntime, space: S) -> Result<(), Failure> {
+        match self.wish {
+            Some(wish) => self.task.run(rt, OrderLayer::new(space, wish)),
+            None => self.task.run(rt, space),
+        }
+    }
 }
 
 #[derive(Clone, Copy)]
@@ -27,39 +60,44 @@ enum Source<'a> {
 #[derive(Clone, Copy)]
 pub struct Pile<'a> {
     source: Source<'a>,
-    below: Option<u8>,
-    order: Option<Order>,
-    above: Option<u8>,
+    below: Option<KindMask>,
+    wish: Option<Order>,
+    above: Option<KindMask>,
 }
 
 impl<'a> Pile<'a> {
     /// Reads the words of a space.
     pub fn read(words: &mut Words<'a>) -> Result<Pile<'a>, Failure> {
-        let source = read_source(words)?;
-        let below = read_filter(words)?;
-        let order = read_order(words)?;
-        let above = read_filter(words)?;
         Ok(Pile {
-            source,
-            below,
-            order,
-            above,
+            source: read_source(words)?,
+            below: read_filter(words)?,
+            wish: read_order(words)?,
+            above: read_filter(words)?,
         })
     }
 
     /// Makes the space and hands it to a task.
-    pub fn run<T: Task>(self, rt: &HostRuntime, task: &T) -> Result<(), Failure> {
+    pub fn run<T: Task + Drop>(self, rt: &HostRuntime, task: T) -> Result<(), Failure> {
+        let above = Filtered {
+            mask: self.above,
+            task,
+        };
+        let ordered = Ordered {
+            wish: self.wish,
+            task: above,
+        };
+        let layers = Filtered {
+            mask: self.below,
+            task: ordered,
+        };
         match self.source {
             Source::Memo(name) => {
                 let file = read_bytes(rt, name)?;
                 let mut memo = Memo::empty(rt.alloc());
                 memo.open(&file)?;
-                run_filtered(rt, memo, self, task)
+                layers.run(rt, memo)
             }
-            Source::Bushy { relations, join } => {
-                let space = Bushy::new(relations, join)?;
-                run_filtered(rt, space, self, task)
-            }
+            Source::Bushy { relations, join } => layers.run(rt, Bushy::new(relations, join)?),
         }
     }
 }
@@ -68,76 +106,34 @@ fn read_source<'a>(words: &mut Words<'a>) -> Result<Source<'a>, Failure> {
     match words.wanted("a space is wanted: name its source")? {
         "--memo" => Ok(Source::Memo(words.wanted("--memo wants a file")?)),
         "--bushy" => {
-            let relations = words::number(words.wanted(
+            let relations = number(words.wanted(
                 "--bushy wants a number of relations and a join",
             )?)?;
-            let join = words::kind(words.wanted(
-                "--bushy wants a join after the number of relations",
-            )?)?;
-            Ok(Source::Bushy { relations, join })
+            let join = words.wanted("--bushy wants a join after the number of relations")?;
+            match lone_kind(join) {
+                Some(join) => Ok(Source::Bushy { relations, join }),
+                None => Err(Failure::Usage("an operator is one letter of SIHMLFO")),
+            }
         }
         _ => Err(Failure::Usage("there is no such source of a space")),
     }
 }
 
-/// The bits of a filter's mask.
-fn read_filter(words: &mut Words) -> Result<Option<u8>, Failure> {
+fn read_filter(words: &mut Words) -> Result<Option<KindMask>, Failure> {
     if !words.skip("--only") {
         return Ok(None);
     }
     let letters = words.wanted("--only wants the letters of some operators")?;
-    Ok(Some(words::kind_bits(letters)?))
+    Ok(Some(kinds(letters)?))
 }
 
 fn read_order(words: &mut Words) -> Result<Option<Order>, Failure> {
     if !words.skip("--order") {
         return Ok(None);
     }
-    match words.wanted("--order wants any or sorted")? {
-        "any" => Ok(Some(Order::Any)),
-        "sorted" => Ok(Some(Order::Sorted)),
+    match words.next() {
+        Some("any") => Ok(Some(Order::Any)),
+        Some("sorted") => Ok(Some(Order::Sorted)),
         _ => Err(Failure::Usage("--order wants any or sorted")),
-    }
-}
-
-fn run_filtered<S: Space + Drop, T: Task>(
-    rt: &HostRuntime,
-    space: S,
-    pile: Pile<'_>,
-    task: &T,
-) -> Result<(), Failure> {
-    match pile.below {
-        Some(bits) => {
-            let mask = KindMask::new(bits)?;
-            run_ordered(rt, KindFilter::new(space, mask), pile, task)
-        }
-        None => run_ordered(rt, space, pile, task),
-    }
-}
-
-fn run_ordered<S: Space + Drop, T: Task>(
-    rt: &HostRuntime,
-    space: S,
-    pile: Pile<'_>,
-    task: &T,
-) -> Result<(), Failure> {
-    match pile.order {
-        Some(wish) => run_above(rt, OrderLayer::new(space, wish), pile, task),
-        None => run_above(rt, space, pile, task),
-    }
-}
-
-fn run_above<S: Space + Drop, T: Task>(
-    rt: &HostRuntime,
-    space: S,
-    pile: Pile<'_>,
-    task: &T,
-) -> Result<(), Failure> {
-    match pile.above {
-        Some(bits) => {
-            let mask = KindMask::new(bits)?;
-            task.run(rt, &KindFilter::new(space, mask))
-        }
-        None => task.run(rt, &space),
     }
 }

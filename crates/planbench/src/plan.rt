@@ -3,8 +3,7 @@
 use crate::failure::Failure;
 use crate::pile::{Pile, Task};
 use crate::room::Room;
-use crate::words;
-use crate::words::Words;
+use crate::words::{Words, number};
 use spaces::space::Space;
 use std::io::Write;
 use texts::report::report;
@@ -22,9 +21,9 @@ struct Plans {
 }
 
 impl Task for Plans {
-    fn run<S: Space>(&self, rt: &HostRuntime, space: &S) -> Result<(), Failure> {
-        let mut room = Room::new(rt.alloc(), space)?;
-        print_report(rt, space, &self.numbers, &mut room)
+    fn run<S: Space + Drop>(&self, rt: &HostRuntime, space: S) -> Result<(), Failure> {
+        let mut room = Room::new(rt.alloc(), &space)?;
+        print_report(rt, &space, &self.numbers, &mut room)
     }
 }
 
@@ -57,9 +56,13 @@ pub fn print_report<S: Space>(
 /// `plan SPACE NUMBER ..`
 pub fn run_plan(rt: &HostRuntime, words: &mut Words) -> Result<(), Failure> {
     let pile = Pile::read(words)?;
-    let mut numbers = Vec::new(rt.alloc());
-    for _ in 0..words.left().max(1) {
-        numbers.push(words::number(words.wanted("plan wants the number of a plan")?)?)?;
+    let words = words.rest();
+    if words.is_empty() {
+        return Err(Failure::Usage("plan wants the number of a plan"));
     }
-    pile.run(rt, &Plans { numbers })
+    let numbers = words
+        .iter()
+        .map(|word| number(word))
+        .try_collect(rt.alloc())?;
+    pile.run(rt, Plans { numbers })
 }

@@ -5,19 +5,8 @@ use numbering::counting::count;
 use numbering::due::Due;
 use numbering::node::Node;
 use numbering::tally::Tally;
-use spaces::kind::Kind;
-use spaces::space::{Alternative, Space};
+use spaces::space::Space;
 use std::alloc::Global;
-
-const NO_NODE: Node = Node {
-    goal: 0,
-    alternative: Alternative {
-        kind: Kind::Scan,
-        tag: 0,
-        left: 0,
-        right: 0,
-    },
-};
 
 /// Buffers that are long enough for a space, how many plans it has and how large the largest is.
 #[derive(Drop)]
@@ -32,17 +21,15 @@ pub struct Room {
 impl Room {
     /// Counts the space, and takes what its largest plan needs.
     pub fn new<S: Space>(heap: Global, space: &S) -> Result<Room, Failure> {
-        let mut tallies = vec![in heap; Tally { count: 0, size: 0 }; space.goals() as usize]?;
+        let mut tallies = vec![in heap; Tally::default(); usize::from(space.goals())]?;
         let (plans, size) = count(space, &mut tallies)?;
-        let largest = size as usize;
-        let work = vec![in heap; Due { goal: 0, number: 0 }; largest]?;
-        let plan = vec![in heap; NO_NODE; largest]?;
+        let largest = usize::from(size);
         Ok(Room {
             plans,
             largest,
             tallies,
-            work,
-            plan,
+            work: vec![in heap; Due::default(); largest]?,
+            plan: vec![in heap; Node::default(); largest]?,
         })
     }
 }

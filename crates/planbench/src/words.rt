@@ -2,101 +2,92 @@
 
 use crate::failure::Failure;
 use spaces::kind::Kind;
+use spaces::mask::KindMask;
 use std::alloc::Global;
 
-/// The words, and how many of them are read.
+/// The words that are not read yet.
 #[derive(Drop)]
 pub struct Words<'a> {
-    words: &'a [String],
-    at: usize,
+    rest: &'a [String],
 }
 
 impl<'a> Words<'a> {
     /// All words after the program's name.
     pub fn new(words: &'a [String]) -> Words<'a> {
-        Words { words, at: 1 }
-    }
-
-    /// How many words are not read.
-    pub fn left(&self) -> usize {
-        self.words.len().saturating_sub(self.at)
+        let mut words = Words { rest: words };
+        words.next();
+        words
     }
 
     /// The next word, if there is one.
     pub fn next(&mut self) -> Option<&'a str> {
-        if self.at >= self.words.len() {
-            return None;
-        }
-        let word = self.words[self.at].as_str();
-        self.at += 1;
-        Some(word)
+        let (word, rest) = self.rest.split_first()?;
+        self.rest = rest;
+        Some(word.as_str())
     }
 
     /// The next word, which has to be there.
     pub fn wanted(&mut self, missing: &'static str) -> Result<&'a str, Failure> {
-        match self.next() {
-            Some(word) => Ok(word),
-            None => Err(Failure::Usage(missing)),
-        }
+        self.next().ok_or(Failure::Usage(missing))
     }
 
     /// Reads the next word if it is this one, and tells whether it was.
     pub fn skip(&mut self, word: &str) -> bool {
-        if self.at >= self.words.len() || self.words[self.at].as_str() != word {
-            return false;
+        match self.rest.split_first() {
+            Some((next, rest)) if next.as_str() == word => {
+                self.rest = rest;
+                true
+            }
+            _ => false,
         }
-        self.at += 1;
-        true
+    }
+
+    /// All other words.
+    pub fn rest(&mut self) -> &'a [String] {
+        let rest = self.rest;
+        self.rest = &[];
+        rest
     }
 
     /// Nothing may follow.
-    pub fn end(&mut self) -> Result<(), Failure> {
-        match self.next() {
-            Some(_) => Err(Failure::Usage("there is a word too many")),
-            None => Ok(()),
+    pub fn end(&self) -> Result<(), Failure> {
+        if self.rest.is_empty() {
+            Ok(())
+        } else {
+            Err(Failure::Usage("there is a word too many"))
         }
     }
 }
 
 /// A number in decimal digits.
 pub fn number(word: &str) -> Result<u64, Failure> {
-    match word.parse::<u64>() {
-        Ok(n) => Ok(n),
-        Err(_) => Err(Failure::Usage("a number in decimal digits, below 2^64, is wanted")),
-    }
+    word.parse().map_err(|_| Failure::Usage("a number in decimal digits, below 2^64, is wanted"))
 }
 
 /// The kind of a letter that stands alone.
-pub fn kind(word: &str) -> Result<Kind, Failure> {
-    let letters = word.as_bytes();
-    if letters.len() == 1 {
-        if let Some(kind) = Kind::from_letter(letters[0]) {
-            return Ok(kind);
-        }
+pub fn lone_kind(word: &str) -> Option<Kind> {
+    match word.as_bytes() {
+        [letter] => Kind::from_letter(*letter),
+        _ => None,
     }
-    Err(Failure::Usage("an operator is one letter of SIHMLFO"))
 }
 
-/// The kinds of some letters, as the bits of a mask.
-pub fn kind_bits(letters: &str) -> Result<u8, Failure> {
+/// The kinds of some letters.
+pub fn kinds(letters: &str) -> Result<KindMask, Failure> {
     let mut bits: u8 = 0;
-    for letter in letters.as_bytes() {
-        match Kind::from_letter(*letter) {
-            Some(kind) => bits |= 1 << kind.number(),
-            None => return Err(Failure::Usage("--only wants letters of SIHMLFO")),
-        }
+    for letter in letters.bytes() {
+        let Some(kind) = Kind::from_letter(letter) else {
+            return Err(Failure::Usage("--only wants letters of SIHMLFO"));
+        };
+        bits |= 1 << u8::from(kind);
     }
-    Ok(bits)
+    Ok(KindMask::new(bits)?)
 }
 
 /// Numbers with commas between; none where there is no text.
 pub fn numbers(heap: Global, text: &str) -> Result<Vec<u64>, Failure> {
-    let mut all = Vec::new(heap);
     if text.is_empty() {
-        return Ok(all);
+        return Ok(Vec::new(heap));
     }
-    for word in text.split(',') {
-        all.push(number(word)?)?;
-    }
-    Ok(all)
+    text.split(',').map(number).try_collect(heap)
 }

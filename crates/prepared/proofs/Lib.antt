@@ -1,4 +1,3 @@
-pub mod Chains
 pub mod Falling
 pub mod Held
 pub mod Ready

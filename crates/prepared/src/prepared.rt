@@ -1,11 +1,12 @@
 //! A prepared space.
 
+ghost use Rattle.std.specs.Prelude.{map, vec_items};
+ghost use Rattle.spaces.specs.TableSpaces.{table_space};
 ghost use Rattle.numbering.specs.Standing.{Standing};
 ghost use Rattle.prepared.specs.Sums.{Summed};
-ghost use Rattle.prepared.specs.Views.{begin_in, listing};
 
-use crate::listed::Listed;
 use numbering::tally::Tally;
+use spaces::table::Table;
 
 mod counting;
 mod lookup;
@@ -14,16 +15,18 @@ mod ranking;
 mod unranking;
 mod view;
 
-pub use crate::prepared::lookup::Search;
 pub use crate::prepared::making::prepare;
 
-/// A space with all that calls on its plans need: its alternatives, the tallies of its goals, and for each alternative
-/// the counts of those before it in its goal, added up.
+/// A space with all that calls on its plans need: its alternatives, the tallies of its goals, and for each goal the counts
+/// of its alternatives, added up: at each place those of the alternatives before it.
+///
+/// The sums lie beside the table and not in it, since they come of its tallies, which are counted over the table as a space.
 #[derive(Drop)]
 pub struct Prepared {
-    listed: Listed,
+    table: Table,
     tallies: Vec<Tally>,
-    sums: Vec<u64>,
-    ghost standing: { ∥ Standing (listing listed) tallies.items ∥₁ },
-    ghost summed: { ∥ Summed (listing listed) (begin_in listed) sums.items ∥₁ },
+    // beside the table, not in its rows: the table is a space of its own, which is counted before there are sums
+    sums: Vec<Vec<u64>>,
+    ghost standing: { Standing (table_space table) tallies.items },
+    ghost summed: { Summed (table_space table) (map vec_items sums.items) },
 }

@@ -6,13 +6,14 @@ ghost use Rattle.prepared.specs.declared.refusal.PrepareRefusal.TheVariants.{Cou
 
 use numbering::refusal::Refusal;
 use std::alloc::{AllocError, AllocFailed};
+use thiserror::Error;
 
 /// Why a space is not prepared.
-#[derive(Clone, Copy, PartialEq, Eq, Debug)]
+#[derive(Clone, Copy, PartialEq, Eq, Debug, Error)]
 pub enum PrepareRefusal {
-    /// The space is none that is counted: it has no goals, too many plans or too large ones.
+    #[error("{0}")]
     Count(Refusal),
-    /// There is no memory for the tables.
+    #[error("there is no memory for the tables")]
     NoMemory,
 }
 
@@ -26,16 +27,9 @@ impl PrepareRefusal {
             PrepareRefusal::NoMemory => None,
         }
     }
-
-    /// The refusal in plain words.
-    pub fn reason(self) -> &'static str {
-        match self {
-            PrepareRefusal::Count(refusal) => refusal.reason(),
-            PrepareRefusal::NoMemory => "there is no memory for the tables",
-        }
-    }
 }
 
+// By hand, as the two below: a derive gives a From without a contract, and `prepare` needs to know which refusal comes.
 impl From<Refusal> for PrepareRefusal {
     ghost from_gives = { λ e r. r ≡ Count e };
 
@@ -44,6 +38,7 @@ impl From<Refusal> for PrepareRefusal {
     }
 }
 
+// By hand, since what a derive writes has no contract; and twice, since `vec!` and `push` fail with errors of their own.
 impl From<AllocError> for PrepareRefusal {
     ghost from_gives = { λ _ r. r ≡ NoMemory };
 

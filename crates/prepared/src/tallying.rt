@@ -15,7 +15,7 @@ pub fn tally_goals<S: Space>(space: &S, heap: Global) -> Result<Vec<Tally>, Prep
     requires { 0 < (S.meaning space.now).goals }
     ensures { MatchResult result (λ ts. Standing (S.meaning space.now) ts.items) (λ e. NotPrepared (S.meaning space.now) e) }
 {
-    let mut tallies = vec![in heap; Tally { count: 0, size: 0 }; space.goals() as usize]?;
+    let mut tallies = vec![in heap; Tally::default(); space.goals() as usize]?;
     count(space, tallies.as_mut_slice())?;
     Ok(tallies)
 }

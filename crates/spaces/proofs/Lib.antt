@@ -1,3 +1,3 @@
-pub mod Appends
+pub mod Filling
 pub mod Parts
-pub mod Seek
+pub mod Tabling

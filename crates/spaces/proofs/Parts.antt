@@ -1,15 +1,15 @@
 -- The parts of a set from the largest proper one down: the part after R is `(R - 1) & g`, and what it leaves of g goes up by one index.
-use Rattle.std.proofs.Common.{◌≡◌, ℕ, zero, suc, ◌+◌, ◌-◌, ◌*◌, ◌/◌, ◌%◌, ◌^◌, ◌<◌, ◌≤◌, min, List, [], ◌∷◌, ◌++◌, map, length, sym, ap, ◌∙◌, ⊎_elim, pow-suc, arith}
+use Rattle.std.proofs.Common.{◌≡◌, ℕ, zero, suc, ◌+◌, ◌-◌, ◌*◌, ◌/◌, ◌%◌, ◌^◌, ◌<◌, ◌≤◌, min, List, [], ◌∷◌, ◌++◌, map, length, take, sym, refl, ap, ◌∙◌, ⊎_elim, pow-suc, zero-le, arith}
 use lib.Bits.{and_step, bit_and}
 use lib.Count.{ones}
 use Rattle.std.specs.List.{range_with_len}
 use Rattle.std.proofs.lemmas.List.FromFn.{length-map-range_with_len}
-use Rattle.std.proofs.lemmas.Option.{slice_get_past}
+use Rattle.std.proofs.lemmas.List.{take_all}
 use Rattle.std.proofs.lemmas.Bool.{cases_lt}
 use Rattle.spaces.specs.declared.kind.Kind.{Kind}
 use Rattle.spaces.specs.declared.space.Alternative.{Alternative}
 use Rattle.spaces.specs.Bushes.{deposit, split}
-use Rattle.spaces.proofs.Appends.{Listing, listing_end, listing_more, listing_start}
+use Rattle.spaces.proofs.Filling.{filled_more}
 use Rattle.spaces.specs.BushesLemmas.{nth_counting}
 use Rattle.spaces.specs.Digits.{dep_even, dep_full, dep_inj, dep_le, dep_odd, dep_zero, odd_or_even}
 
@@ -89,13 +89,14 @@ next_part (suc d) g x l m = let below : (y : ℕ) → deposit d (g / 2) y < g / 
 abbrev pub splits_of : Kind → ℕ → List Alternative
 splits_of join g = map (split join g) (range_with_len 0 (2 ^ ones g - 2))
 
--- the part `right` is the next right side, and the splits before it stand in `now` behind `old`
-pub record Splitting (join : Kind) (g : ℕ) (old now : List Alternative) (right : ℕ) : Type 0 where
+-- the part `right` is the next right side, and the splits before it stand in `now`
+pub record Splitting (join : Kind) (g : ℕ) (now : List Alternative) (right : ℕ) : Type 0 where
   pub at : ℕ
+  pub within : at ≤ length (splits_of join g)
   pub is : right ≡ g - deposit 16 g (at + 1)
-  pub listing : Listing (splits_of join g) old now at
+  pub same : now ≡ take at (splits_of join g)
 
-module _ (join : Kind) (g : ℕ) (pos : 0 < g) (fits : g < 65536) (old : List Alternative) where
+module _ (join : Kind) (g : ℕ) (pos : 0 < g) (fits : g < 65536) where
   wide : g < 2 ^ 16
   wide = fits
 
@@ -109,37 +110,39 @@ module _ (join : Kind) (g : ℕ) (pos : 0 < g) (fits : g < 65536) (old : List Al
   long : length (splits_of join g) ≡ 2 ^ ones g - 2
   long = length-map-range_with_len (split join g) 0 (2 ^ ones g - 2)
 
-  pub splitting_start : Splitting join g old old (bit_and (g - 1) g)
+  pub splitting_start : Splitting join g [] (bit_and (g - 1) g)
   splitting_start = record {
     at = 0;
+    within = zero-le;
     is =
         let none : deposit 16 g 0 ≡ 0 = dep_zero 16 g in
         ap (λ n. bit_and (n - 1) g) (omega arith) ∙ next_part 16 g 0 wide (omega arith);
-    listing = listing_start (splits_of join g) old;
+    same = refl;
   }
 
-  pub splitting_more : (now new : List Alternative) (right : ℕ) → Splitting join g old now right → (right ≡ 0 → ⊥) → new ≡ now ++ (record { kind = join; tag = 0; left = g - right; right = right } ∷ []) → Splitting join g old new (bit_and (right - 1) g)
+  pub splitting_more : (now new : List Alternative) (right : ℕ) → Splitting join g now right → (right ≡ 0 → ⊥) → new ≡ now ++ (record { kind = join; tag = 0; left = g - right; right = right } ∷ []) → Splitting join g new (bit_and (right - 1) g)
   splitting_more now new right s ne e =
       let at = s.at in
       let is : right ≡ g - deposit 16 g (at + 1) = s.is in
       let le : deposit 16 g (at + 1) ≤ g = dep_le 16 g (at + 1) in
       let left : g - right ≡ deposit 16 g (at + 1) = omega arith in
-      let less : at < 2 ^ ones g - 2 = ⊎_elim (λ (l : at < 2 ^ ones g - 2). l) (λ (m : 2 ^ ones g - 2 ≤ at). absurd (ne (full at is (omega (arith, s.listing.within, long, two))))) (cases_lt at (2 ^ ones g - 2)) in
+      let less : at < 2 ^ ones g - 2 = ⊎_elim (λ (l : at < 2 ^ ones g - 2). l) (λ (m : 2 ^ ones g - 2 ≤ at). absurd (ne (full at is (omega (arith, s.within, long, two))))) (cases_lt at (2 ^ ones g - 2)) in
       record {
         at = at + 1;
+        within = omega (arith, long);
         is = ap (λ n. bit_and (n - 1) g) is ∙ next_part 16 g (at + 1) wide (omega (arith, ne));
-        listing = listing_more (splits_of join g) old now new at (split join g at) s.listing (nth_counting (split join g) (2 ^ ones g - 2) at less)
+        same = filled_more (splits_of join g) now new at (split join g at) s.same (nth_counting (split join g) (2 ^ ones g - 2) at less)
             (e ∙ (λ i. now ++ (record { kind = join; tag = 0; left = left i; right = is i } ∷ [])));
       }
     where
       full : (at : ℕ) → right ≡ g - deposit 16 g (at + 1) → at + 1 ≡ 2 ^ ones g - 1 → right ≡ 0
       full at is q = let same : deposit 16 g (at + 1) ≡ g = ap (deposit 16 g) q ∙ dep_full 16 g wide in omega arith
 
-  pub splitting_end : (now : List Alternative) (right : ℕ) → Splitting join g old now right → right ≡ 0 → now ≡ old ++ splits_of join g
+  pub splitting_end : (now : List Alternative) (right : ℕ) → Splitting join g now right → right ≡ 0 → now ≡ splits_of join g
   splitting_end now right s z =
       let at = s.at in
       let is : right ≡ g - deposit 16 g (at + 1) = s.is in
       let le : deposit 16 g (at + 1) ≤ g = dep_le 16 g (at + 1) in
       let all : deposit 16 g (at + 1) ≡ deposit 16 g (2 ^ ones g - 1) = omega (arith, dep_full 16 g wide) in
-      let last : at + 1 ≡ 2 ^ ones g - 1 = dep_inj 16 g (at + 1) (2 ^ ones g - 1) wide (omega (arith, s.listing.within, long, two)) (omega (arith, two)) all in
-      listing_end (splits_of join g) old now at s.listing (slice_get_past (splits_of join g) at (omega (arith, long)))
+      let last : at + 1 ≡ 2 ^ ones g - 1 = dep_inj 16 g (at + 1) (2 ^ ones g - 1) wide (omega (arith, s.within, long, two)) (omega (arith, two)) all in
+      s.same ∙ take_all at (splits_of join g) (omega (arith, long))

@@ -12,3 +12,6 @@ pub mod FiltersLemmas
 pub mod Lists
 pub mod Places
 pub mod OrdersLemmas
+pub mod Tables
+pub mod Laws
+pub mod TableSpaces

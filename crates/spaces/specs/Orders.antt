@@ -49,6 +49,10 @@ abbrev pub order_list : Bool → ℕ → List Alternative → List Alternative
 order_list true g xs = map (lifted true) (filter sortable xs) ++ (sort_of g ∷ [])
 order_list false g xs = map (lifted false) xs
 
+-- the alternatives that the layer has for goal g of m in an order
+abbrev pub in_order : Order → ℕ → Meaning → List Alternative
+in_order order g m = order_list (asks order) g (m.lists g)
+
 -- twice the goals below, and none over more than 2,048
 abbrev pub order_goals : ℕ → ℕ
 order_goals n = cond (nat_le n 2048) (2 * n) 0

@@ -1,7 +1,8 @@
 -- What a plan space means, and the laws of every space.
-use Rattle.std.specs.Prelude.{◌≡◌, ℕ, ◌+◌, ◌<◌, ◌≤◌, List, [], ◌∷◌, ◌++◌, length, take, IfOk, Result, ◌≢◌}
+use Rattle.std.specs.Prelude.{◌≡◌, ℕ, ◌+◌, ◌<◌, ◌≤◌, List, [], ◌∷◌, length, drop, ◌≢◌}
 use Rattle.std.specs.List.{AllByRecursion}
 use Rattle.spaces.specs.declared.space.Alternative.{Alternative}
+use Rattle.spaces.specs.declared.space.Alternatives.{Alternatives}
 use Rattle.spaces.specs.Kinds.{arity}
 
 -- goals from 0, each with a list of alternatives, and the goal that complete plans are for
@@ -23,11 +24,6 @@ abbrev pub Apart : {X : Type 0} → List X → Type 0
 Apart [] = Unit {0}
 Apart (x ∷ xs) = AllByRecursion (λ y. x ≢ y) xs × Apart xs
 
--- What a call leaves of a list that it appends xs to: xs stands behind what stood there, `old`; where memory was short, it still begins with that.
-pub record Appended {E : Type 0} (old now xs : List Alternative) (r : Result (Unit {0}) E) : Type 0 where
-  pub front : take (length old) now ≡ old
-  pub whole : IfOk r (λ _. now ≡ old ++ xs)
-
 pub record Lawful (m : Meaning) : Type 0 where
   pub few : m.goals ≤ 4096
   pub root_below : 0 < m.goals → m.root < m.goals
@@ -36,3 +32,7 @@ pub record Lawful (m : Meaning) : Type 0 where
   pub narrow : (g : ℕ) → length (m.lists g) ≤ 4096 + g
   pub sound : (g : ℕ) → AllByRecursion (Sound g) (m.lists g)
   pub distinct : (g : ℕ) → Apart (m.lists g)
+
+-- the alternatives that an iterator over a goal's still has to give
+abbrev pub ahead : {S : Type 0} → (S → Meaning) → Alternatives S → List Alternative
+ahead meaning it = drop it.index ((meaning it.space.now).lists it.goal)

@@ -1,17 +1,16 @@
 //! All bushy join trees over some relations.
 
-ghost use Rattle.std.specs.Prelude.{◌≡◌, ◌-◌, ◌^◌, ◌<◌, ◌≤◌, map, Some, None, MatchResult, count_ones};
+ghost use Rattle.std.specs.Prelude.{◌≡◌, ◌-◌, ◌^◌, ◌<◌, ◌≤◌, map, Some, None, IfOk, MatchResult, count_ones};
 ghost use Rattle.spaces.specs.Bushes.{bushes, deposit, scan, split};
 ghost use Rattle.spaces.specs.Kinds.{arity};
 ghost use Rattle.spaces.specs.Refusals.{bushy_refusal};
-ghost use Rattle.spaces.specs.Spaces.{Appended};
 ghost use Rattle.std.specs.List.{range_with_len};
 ghost use Rattle.spaces.specs.BushesLemmas.{bushes_lawful};
 
 use crate::kind::Kind;
 use crate::refusal::MakeRefusal;
 use crate::space::{Alternative, Space};
-use std::alloc::AllocError;
+use std::alloc::{AllocError, Global};
 
 /// All bushy trees over 1 to 10 relations with one join operator.
 ///
@@ -71,15 +70,16 @@ fn scan_of(set: u16) -> Alternative
     }
 }
 
-/// Appends the splits of a set of relations in a left and a right side. The right sides are its parts
-/// from the largest proper one down, so the left sides stand in the order of their digits.
-fn list_splits(join: Kind, set: u16, into: &mut Vec<Alternative>) -> Result<(), AllocError>
+/// The splits of a set of relations in a left and a right side. The right sides are its parts from the
+/// largest proper one down, so the left sides stand in the order of their digits.
+fn splits(join: Kind, set: u16, heap: Global) -> Result<Vec<Alternative>, AllocError>
     requires { 0 < set }
-    ensures { Appended into.old.items into.new.items (map (split join set) (range_with_len 0 (2 ^ count_ones set - 2))) result }
+    ensures { IfOk result (λ list. list.items ≡ map (split join set) (range_with_len 0 (2 ^ count_ones set - 2))) }
 {
+    let mut list = Vec::new(heap);
     let mut right = (set - 1) & set;
     while right != 0 {
-        into.push(Alternative {
+        list.push(Alternative {
             kind: join,
             tag: 0,
             left: set - right,
@@ -87,7 +87,7 @@ fn list_splits(join: Kind, set: u16, into: &mut Vec<Alternative>) -> Result<(), 
         })?;
         right = (right - 1) & set;
     }
-    Ok(())
+    Ok(list)
 }
 
 impl Space for Bushy {
@@ -119,12 +119,7 @@ impl Space for Bushy {
             return None;
         }
         if goal.count_ones() == 1 {
-            return Some(Alternative {
-                kind: Kind::Scan,
-                tag: goal.trailing_zeros() as u16,
-                left: 0,
-                right: 0,
-            });
+            return Some(scan_of(goal));
         }
         let left = carried(goal, index as u16 + 1);
         Some(Alternative {
@@ -135,14 +130,13 @@ impl Space for Bushy {
         })
     }
 
-    fn list(&self, goal: u16, into: &mut Vec<Alternative>) -> Result<(), AllocError> {
+    fn list(&self, goal: u16, heap: Global) -> Result<Vec<Alternative>, AllocError> {
         if goal == 0 || goal >= self.goals() {
-            return Ok(());
+            return Ok(Vec::new(heap));
         }
         if goal.count_ones() == 1 {
-            into.push(scan_of(goal))?;
-            return Ok(());
+            return vec![in heap; scan_of(goal); 1];
         }
-        list_splits(self.join, goal, into)
+        splits(self.join, goal, heap)
     }
 }

@@ -4,10 +4,10 @@ ghost use Rattle.std.specs.Prelude.{◌≡◌};
 ghost use Rattle.spaces.specs.Filters.{filtered};
 ghost use Rattle.spaces.specs.FiltersLemmas.{filtered_lawful};
 
-use crate::keep::{kept_at, kept_width, sieve};
+use crate::keep::{Test, kept_at, kept_width};
 use crate::mask::KindMask;
 use crate::space::{Alternative, Space};
-use std::alloc::AllocError;
+use std::alloc::{AllocError, Global};
 
 /// The space below with only the alternatives whose kind is in the mask.
 #[derive(Drop)]
@@ -46,10 +46,9 @@ impl<S: Space> Space for KindFilter<S> {
         kept_at(&self.below, &self.mask, goal, index)
     }
 
-    fn list(&self, goal: u16, into: &mut Vec<Alternative>) -> Result<(), AllocError> {
-        let from = into.len();
-        self.below.list(goal, into)?;
-        sieve(&self.mask, into, from);
-        Ok(())
+    fn list(&self, goal: u16, heap: Global) -> Result<Vec<Alternative>, AllocError> {
+        let mut list = self.below.list(goal, heap)?;
+        list.retain(|alternative| self.mask.passes(*alternative));
+        Ok(list)
     }
 }

@@ -7,6 +7,8 @@ pub mod keep;
 pub mod kind;
 pub mod mask;
 pub mod order;
+mod ordered_goal;
 pub mod refusal;
 pub mod sorting;
 pub mod space;
+pub mod table;

@@ -30,7 +30,7 @@ impl KindMask {
     pub fn has(self, kind: Kind) -> bool
         ensures { result ≡ holds self.bits kind }
     {
-        (self.bits >> kind.number()) % 2 == 1
+        (self.bits >> u8::from(kind)) % 2 == 1
     }
 }
 

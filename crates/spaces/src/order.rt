@@ -1,16 +1,12 @@
 //! The layer that tells apart goals in any order and sorted ones.
 
-ghost use Rattle.std.specs.Prelude.{◌≡◌, ◌<◌, true, false, ◌++◌, map, length, take, drop};
-ghost use Rattle.spaces.specs.Orders.{KeepsOrders, Small, asks, lifted, order_list, ordered, place, sort_of, sortable};
-ghost use Rattle.spaces.specs.Spaces.{Appended};
-ghost use Rattle.std.specs.List.{AllByRecursion, slice_get};
+ghost use Rattle.std.specs.Prelude.{◌≡◌, ◌<◌, ◌≤◌, MatchOption};
+ghost use Rattle.spaces.specs.Orders.{KeepsOrders, asks, ordered, place};
 ghost use Rattle.spaces.specs.OrdersLemmas.{ordered_lawful};
 
-use crate::keep::{Test, kept_at, kept_width, sieve};
-use crate::kind::Kind;
-use crate::sorting::{output_is_sorted, wants_left_sorted, wants_right_sorted};
+use crate::ordered_goal::{OrderedGoal, placed};
 use crate::space::{Alternative, Space};
-use std::alloc::AllocError;
+use std::alloc::{AllocError, Global};
 
 /// The order in which a plan's rows are wished for.
 #[derive(Clone, Copy, PartialEq, Eq, Debug)]
@@ -48,134 +44,25 @@ impl<S: Space> OrderLayer<S> {
     {
         OrderLayer { below, wish }
     }
-}
 
-/// The test for alternatives whose output is sorted, or is where the left child's is.
-#[derive(Clone, Copy)]
-pub struct Sortable;
-
-impl Test for Sortable {
-    ghost picks = { λ _. sortable };
-
-    fn passes(&self, alternative: Alternative) -> bool {
-        output_is_sorted(alternative.kind, alternative.tag, true)
-    }
-}
-
-/// The layer's goal for a goal below.
-fn placed(goal: u16, sorted: bool) -> u16
-    requires { goal < 4096 }
-    ensures { result ≡ place sorted goal }
-{
-    if sorted { 2 * goal + 1 } else { 2 * goal }
-}
-
-/// An alternative below as one of the layer, where `asked` says whether its output has to be sorted.
-fn lift(below: Alternative, asked: bool) -> Alternative
-    requires left_bound { below.left < 4096 }
-    requires right_bound { below.right < 4096 }
-    ensures { result ≡ lifted asked below }
-{
-    let Alternative {
-        kind,
-        tag,
-        left,
-        right,
-    } = below;
-    Alternative {
-        kind,
-        tag,
-        left: placed(left, wants_left_sorted(kind, tag, asked)),
-        right: placed(right, wants_right_sorted(kind, tag)),
-    }
-}
-
-/// The sort of a goal below in any order.
-fn sort_of(goal: u16) -> Alternative
-    requires { goal < 4096 }
-    ensures { result ≡ sort_of goal }
-{
-    Alternative {
-        kind: Kind::Sort,
-        tag: 0,
-        left: placed(goal, false),
-        right: 0,
-    }
-}
-
-/// How many alternatives a goal below has in any order.
-fn any_width<S: Space>(below: &S, goal: u16) -> u32
-    ensures { result ≡ length (order_list false goal ((S.Space.meaning below.now).lists goal)) }
-{
-    below.width(goal)
-}
-
-/// The alternative number `index` of a goal below in any order.
-fn any_at<S: Space>(below: &S, goal: u16, index: u32) -> Option<Alternative>
-    ensures { result ≡ slice_get (order_list false goal ((S.Space.meaning below.now).lists goal)) index }
-{
-    let Some(alternative) = below.alternative(goal, index) else {
-        return None;
-    };
-    Some(lift(alternative, false))
-}
-
-/// How many alternatives a goal below has sorted.
-fn sorted_width<S: Space>(below: &S, goal: u16) -> u32
-    ensures { result ≡ length (order_list true goal ((S.Space.meaning below.now).lists goal)) }
-{
-    kept_width(below, &Sortable, goal) + 1
-}
-
-/// The alternative number `index` of a goal below sorted: those that can be, and last the sort.
-fn sorted_at<S: Space>(below: &S, goal: u16, index: u32) -> Option<Alternative>
-    requires { goal < 4096 }
-    ensures { result ≡ slice_get (order_list true goal ((S.Space.meaning below.now).lists goal)) index }
-{
-    let Some(alternative) = kept_at(below, &Sortable, goal, index) else {
-        if index == kept_width(below, &Sortable, goal) {
-            return Some(sort_of(goal));
+    /// The goal below that a goal of the layer stands for, with its order: none past the last goal.
+    fn below_goal(&self, goal: u16) -> Option<OrderedGoal<'_, S>>
+        ensures { MatchOption result ((ordered (S.Space.meaning self.now.below) self.now.wish).goals ≤ goal) (λ o. (goal < (ordered (S.Space.meaning self.now.below) self.now.wish).goals) × (goal ≡ place (asks o.order) o.goal) × (o.below.now ≡ self.now.below)) }
+    {
+        if goal >= self.goals() {
+            return None;
         }
-        return None;
-    };
-    Some(lift(alternative, true))
-}
-
-/// Makes each alternative below, from the place `from` on, one of the layer.
-fn lift_all(items: &mut Vec<Alternative>, from: usize, asked: bool)
-    requires { AllByRecursion Small (drop from items.old.items) }
-    ensures { items.new.items ≡ take from items.old.items ++ map (lifted asked) (drop from items.old.items) }
-{
-    for at in from..items.len() {
-        items[at] = lift(items[at], asked);
+        let order = if goal % 2 == 1 {
+            Order::Sorted
+        } else {
+            Order::Any
+        };
+        Some(OrderedGoal {
+            below: &self.below,
+            goal: goal / 2,
+            order,
+        })
     }
-}
-
-/// Appends the alternatives of a goal below in any order.
-fn any_list<S: Space>(below: &S, goal: u16, into: &mut Vec<Alternative>) -> Result<(), AllocError>
-    ensures { Appended into.old.items into.new.items (order_list false goal ((S.Space.meaning below.now).lists goal)) result }
-{
-    let from = into.len();
-    below.list(goal, into)?;
-    lift_all(into, from, false);
-    Ok(())
-}
-
-/// Appends the alternatives of a goal below sorted: those that can be, and last the sort.
-fn sorted_list<S: Space>(
-    below: &S,
-    goal: u16,
-    into: &mut Vec<Alternative>,
-) -> Result<(), AllocError>
-    requires { goal < 4096 }
-    ensures { Appended into.old.items into.new.items (order_list true goal ((S.Space.meaning below.now).lists goal)) result }
-{
-    let from = into.len();
-    below.list(goal, into)?;
-    sieve(&Sortable, into, from);
-    lift_all(into, from, true);
-    into.push(sort_of(goal))?;
-    Ok(())
 }
 
 impl<S: Space> Space for OrderLayer<S> {
@@ -197,35 +84,20 @@ impl<S: Space> Space for OrderLayer<S> {
     }
 
     fn width(&self, goal: u16) -> u32 {
-        if goal >= self.goals() {
-            return 0;
-        }
-        if goal % 2 == 1 {
-            sorted_width(&self.below, goal / 2)
-        } else {
-            any_width(&self.below, goal / 2)
+        match self.below_goal(goal) {
+            Some(below) => below.width(),
+            None => 0,
         }
     }
 
     fn alternative(&self, goal: u16, index: u32) -> Option<Alternative> {
-        if goal >= self.goals() {
-            return None;
-        }
-        if goal % 2 == 1 {
-            sorted_at(&self.below, goal / 2, index)
-        } else {
-            any_at(&self.below, goal / 2, index)
-        }
+        self.below_goal(goal)?.alternative(index)
     }
 
-    fn list(&self, goal: u16, into: &mut Vec<Alternative>) -> Result<(), AllocError> {
-        if goal >= self.goals() {
-            return Ok(());
-        }
-        if goal % 2 == 1 {
-            sorted_list(&self.below, goal / 2, into)
-        } else {
-            any_list(&self.below, goal / 2, into)
+    fn list(&self, goal: u16, heap: Global) -> Result<Vec<Alternative>, AllocError> {
+        match self.below_goal(goal) {
+            Some(below) => below.list(heap),
+            None => Ok(Vec::new(heap)),
         }
     }
 }

@@ -1,14 +1,15 @@
 //! The interface of a plan space.
 
-ghost use Rattle.std.specs.Prelude.{◌≡◌, length};
+ghost use Rattle.std.specs.Prelude.{◌≡◌, length, IfOk};
+ghost use Rattle.std.specs.Iterator.{YieldsFirst, item_count};
 ghost use Rattle.std.specs.List.{slice_get};
-ghost use Rattle.spaces.specs.Spaces.{Appended, Lawful, Meaning};
+ghost use Rattle.spaces.specs.Spaces.{Lawful, Meaning, ahead};
 
 use crate::kind::Kind;
-use std::alloc::AllocError;
+use std::alloc::{AllocError, Global};
 
 /// One way to reach a goal: an operator and the goals of its children. An unused child is 0.
-#[derive(Clone, Copy, PartialEq, Eq, Debug)]
+#[derive(Clone, Copy, PartialEq, Eq, Default, Debug)]
 pub struct Alternative {
     pub kind: Kind,
     pub tag: u16,
@@ -39,20 +40,58 @@ pub trait Space {
     fn alternative(&self, goal: u16, index: u32) -> Option<Alternative>
         ensures { result ≡ slice_get ((meaning self.now).lists goal) index };
 
-    /// Appends all alternatives of a goal in their order. Where memory is short, what stood in the
-    /// list still stands at its front.
+    /// All alternatives of a goal in their order, in a list of its own.
     ///
     /// A space that can give them faster than one by one, as a layer can, answers it itself.
-    fn list(&self, goal: u16, into: &mut Vec<Alternative>) -> Result<(), AllocError>
-        ensures { Appended into.old.items into.new.items ((meaning self.now).lists goal) result }
+    fn list(&self, goal: u16, heap: Global) -> Result<Vec<Alternative>, AllocError>
+        ensures { IfOk result (λ list. list.items ≡ (meaning self.now).lists goal) }
     {
-        let mut at = 0;
-        while let Some(alternative) = self.alternative(goal, at) {
-            into.push(alternative)?;
-            at += 1;
+        let mut list = Vec::new(heap);
+        // not over `alternatives`: the proof of a provided method that hands `Self` on did not close
+        for index in 0..self.width(goal) {
+            if let Some(alternative) = self.alternative(goal, index) {
+                list.push(alternative)?;
+            }
         }
-        Ok(())
+        Ok(list)
+    }
+
+    /// All alternatives of a goal one by one, in their order.
+    fn alternatives(&self, goal: u16) -> Alternatives<'_, Self>
+    where
+        Self: Sized,
+        ensures { ahead meaning result ≡ (meaning self.now).lists goal }
+    {
+        Alternatives {
+            space: self,
+            goal,
+            index: 0,
+        }
     }
 
     ghost lawful: { (s : Self) → Lawful (meaning s) };
+}
+
+/// The alternatives of a goal one by one, in their order.
+#[derive(Drop)]
+pub struct Alternatives<'a, S> {
+    space: &'a S,
+    goal: u16,
+    index: u32,
+}
+
+impl<S: Space> Iterator for Alternatives<'_, S> {
+    type Item = Alternative;
+
+    ghost next_gives = { YieldsFirst (ahead S.Space.meaning) };
+
+    ghost remaining = { item_count (ahead S.Space.meaning) };
+
+    fn next(&mut self) -> Option<Alternative> {
+        let Some(alternative) = self.space.alternative(self.goal, self.index) else {
+            return None;
+        };
+        self.index += 1;
+        Some(alternative)
+    }
 }

@@ -10,6 +10,10 @@ use Rattle.texts.specs.Parts.{LabelAt, Labelled, NoDigit, NumberAt, Stands, bare
 use Rattle.texts.specs.Texts.{label}
 use Rattle.texts.proofs.Runs.{one_number}
 
+-- the same text and place
+pub number_moved : (b c : List ℕ) (i j : ℕ) (o : Option (ℕ × ℕ)) → b ≡ c → i ≡ j → NumberAt b i o → NumberAt c j o
+number_moved b c i j o e f h = subst (λ k. NumberAt c k o) f (subst (λ x. NumberAt x i o) e h)
+
 -- ---- one byte
 
 pub byte_here : (bytes : List ℕ) (i b : ℕ) → byte_at bytes i b ≡ true → (i < length bytes) × (drop i bytes ≡ b ∷ drop (i + 1) bytes)
@@ -101,21 +105,22 @@ no_label_end bytes i l k t g e ht hg h =
     let p = label_parts bytes i k t g e h in
     omega (arith, inside bytes i (letter k) (drop (i + 1) bytes) p.first)
 
-pub no_label_letter : (bytes : List ℕ) (i : ℕ) → lettered (get_or bytes i 0) ≡ None → LabelAt bytes i None
-no_label_letter bytes i none k t g e ht hg h =
+pub no_label_letter : (bytes : List ℕ) (i j b : ℕ) → drop i bytes ≡ b ∷ drop j bytes → lettered b ≡ None → LabelAt bytes i None
+no_label_letter bytes i j b here none k t g e ht hg h =
     let p = label_parts bytes i k t g e h in
-    none_some (sym none ∙ ap lettered (head_is bytes i (letter k) (drop (i + 1) bytes) p.first) ∙ letter_kind k)
+    let same : b ≡ letter k = ap (λ l. get_or l 0 0) (sym here ∙ p.first) in
+    none_some (sym none ∙ ap lettered same ∙ letter_kind k)
 
 pub no_label_tag : (bytes : List ℕ) (i : ℕ) → NumberAt bytes (i + 1) None → LabelAt bytes i None
 no_label_tag bytes i none k t g e ht hg h =
     let p = label_parts bytes i k t g e h in
     none t (i + 1 + length (decimal t)) ht p.tag
 
-module _ (bytes : List ℕ) (i tag s : ℕ) (small : tag < 65536) (here : Stands (decimal tag) bytes (i + 1) s) where
+module _ (bytes : List ℕ) (i tag s : ℕ) (here : NumberAt bytes (i + 1) (Some (tag, s))) where
   same_sign : (k : Kind) (t g e : ℕ) → t < 65536 → Stands (label (bare k t g)) bytes i e → (tag ≡ t) × Parts bytes i k t g s e
   same_sign k t g e ht h =
       let p = label_parts bytes i k t g e h in
-      let both = one_number bytes (i + 1) s (i + 1 + length (decimal t)) tag t small ht here p.tag in
+      let both = one_number bytes (i + 1) s (i + 1 + length (decimal t)) tag t here.1 ht here.0 p.tag in
       (both.0, subst (λ j. Parts bytes i k t g j e) (sym both.1) p)
 
   pub no_label_sign : byte_at bytes s 64 ≡ false → LabelAt bytes i None
@@ -124,16 +129,16 @@ module _ (bytes : List ℕ) (i tag s : ℕ) (small : tag < 65536) (here : Stands
   pub no_label_goal : NumberAt bytes (s + 1) None → LabelAt bytes i None
   no_label_goal none k t g e ht hg h = none g e hg (same_sign k t g e ht h).1.goal
 
-pub label_here : (bytes : List ℕ) (i : ℕ) (k : Kind) (t s g e : ℕ) → i < length bytes → lettered (get_or bytes i 0) ≡ Some k → t < 65536 → Stands (decimal t) bytes (i + 1) s → byte_at bytes s 64 ≡ true →
-    g < 65536 → Stands (decimal g) bytes (s + 1) e → Labelled bytes i (bare k t g) e
-label_here bytes i k t s g e l letters ht tag sign hg goal =
+pub label_here : (bytes : List ℕ) (i b : ℕ) (k : Kind) (t s g e : ℕ) → drop i bytes ≡ b ∷ drop (i + 1) bytes → lettered b ≡ Some k → NumberAt bytes (i + 1) (Some (t, s)) → byte_at bytes s 64 ≡ true →
+    NumberAt bytes (s + 1) (Some (g, e)) → Labelled bytes i (bare k t g) e
+label_here bytes i b k t s g e first letters tag sign goal =
     let p : Parts bytes i k t g s e = record {
-      first = drop_more bytes i 0 l ∙ ap (λ c. c ∷ drop (i + 1) bytes) (sym (kind_letter (get_or bytes i 0) k letters));
-      tag = tag;
+      first = first ∙ ap (λ c. c ∷ drop (i + 1) bytes) (sym (kind_letter b k letters));
+      tag = tag.0;
       sign = (byte_here bytes s 64 sign).1;
-      goal = goal;
+      goal = goal.0;
     } in
-    record { stands = parts_label bytes i k t g s e p; plain = refl; tag = ht; goal = hg }
+    record { stands = parts_label bytes i k t g s e p; plain = refl; tag = tag.1; goal = goal.1 }
 
 -- ---- and where there is one it is the only one
 

@@ -13,3 +13,4 @@ pub mod Runs
 pub mod Spells
 pub mod TreeTexts
 pub mod Turns
+pub mod Writers

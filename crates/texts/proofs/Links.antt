@@ -1,5 +1,5 @@
 -- The goals of children are those of their own nodes.
-use Rattle.std.proofs.Common.{◌≡◌, ℕ, zero, suc, ◌+◌, ◌≤◌, Bool, true, eqb, leb, List, [], ◌∷◌, ◌++◌, length, get_or, take, drop, set, Some, None, Option, sym, refl, ap, ◌∙◌, append_assoc, append-nil, arith}
+use Rattle.std.proofs.Common.{◌≡◌, ℕ, zero, suc, ◌+◌, ◌≤◌, Bool, eqb, leb, List, [], ◌∷◌, ◌++◌, length, get_or, take, drop, set, Some, None, Option, sym, refl, ap, ◌∙◌, append_assoc, append-nil, arith}
 use Rattle.std.proofs.lemmas.List.{drop_all, drop_more, get_or_at, length-take-le, set_at, take_all, take_more}
 use Rattle.std.specs.List.{slice_get}
 use Rattle.spaces.specs.Places.{all_nth}
@@ -73,12 +73,6 @@ module _ (m : Meaning) (law : Lawful m) where
 
   pub linked_plan : {o : Option ℕ} (t : Tree m o) → linked (stripped (nodes t)) ≡ nodes t
   linked_plan t = ap linked (sym (append-nil (stripped (nodes t)))) ∙ linked_tree t [] ∙ append-nil (nodes t)
-
--- a goal is taken off a stack
-pub child_top : (w : Bool) (v u : List ℕ) (g : ℕ) → w ≡ true → v ≡ u ++ (g ∷ []) → (g ≡ child w (from_top v)) × (from_top u ≡ others w (from_top v))
-child_top w v u g e is =
-    let top : from_top v ≡ g ∷ from_top u = ap from_top is ∙ top_push u g in
-    (sym (ap (λ b. child b (from_top v)) e ∙ ap (child true) top), sym (ap (λ b. others b (from_top v)) e ∙ ap (others true) top))
 
 -- ---- the loop, from the last node to the first
 

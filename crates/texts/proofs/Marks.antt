@@ -1,18 +1,14 @@
 -- The marks due at the end of the part of the buffer that is written.
-use Rattle.std.proofs.Common.{◌≡◌, ℕ, suc, ◌+◌, ◌-◌, ◌<◌, ◌≤◌, true, false, cond, eqb, List, [], ◌∷◌, ◌++◌, length, get_or, take, drop, set, sym, refl, ap, ◌∙◌, add-one, arith, length-drop, length-set, drop-set-lt}
-use Rattle.std.specs.List.{between}
-use Rattle.std.proofs.lemmas.List.{drop_more, drop-set, drop-drop, length-take-le}
+use Rattle.std.proofs.Common.{◌≡◌, ℕ, suc, ◌+◌, ◌-◌, ◌<◌, ◌≤◌, Bool, true, false, not, cond, eqb, Option, List, [], ◌∷◌, ◌++◌, length, take, drop, set, sym, refl, ap, ◌∙◌, subst, ⊎_elim, append_assoc, add-one, arith, length-drop, length-set, drop-set-lt}
+use Rattle.std.specs.List.{between, copy_within, position, position_or_len}
+use Rattle.std.specs.Option.{MatchOption}
+use Rattle.std.proofs.lemmas.List.{drop-set, drop-drop, length-take-le, take-take}
 use Rattle.std.proofs.lemmas.Slice.{between_is}
-use Rattle.std.proofs.lemmas.Bool.{ne_eqb}
+use Rattle.std.proofs.lemmas.Bool.{cases_lt, le-ltb, lt-ltb}
 use Rattle.texts.specs.Layout.{laid, closing, opening, ahead}
 use Rattle.texts.specs.Listed.{flat, headed}
-use Rattle.texts.proofs.Laid.{length_laid, laid_append, laid_set, drop_laid}
+use Rattle.texts.proofs.Laid.{length_laid, laid_append, laid_is, laid_set, drop_laid}
 use Rattle.texts.proofs.Forests.{length_ahead, ahead_leaf, ahead_one, ahead_two}
-
-pub between_cons : (t end : ℕ) (out : List ℕ) → t < end → end ≤ length out → between t end out ≡ get_or out t 0 ∷ between (t + 1) end out
-between_cons t end out h w =
-    let e : end - t ≡ suc (end - (t + 1)) = omega arith in
-    ap (λ k. take k (drop t out)) e ∙ ap (take (suc (end - (t + 1)))) (drop_more out t 0 (omega arith))
 
 pub between_set : (t end j c : ℕ) (out : List ℕ) → j < t → between t end (set out j c) ≡ between t end out
 between_set t end j c out h = ap (take (end - t)) (drop-set-lt t out j c h)
@@ -42,31 +38,50 @@ opening_drop [] = refl
 opening_drop (c ∷ s) =
     elim (eqb c 44) as (λ b. drop (length (cond b [] (closing s))) s ≡ cond b s (opening s)) [ true ↦ refl | false ↦ opening_drop s ]
 
--- the loop that closes
-closing_other : (m : ℕ) (s : List ℕ) → (m ≡ 44 → ⊥) → closing (m ∷ s) ≡ m ∷ closing s
-closing_other m s ne = ap (λ b. m ∷ cond b [] (closing s)) (ne_eqb m 44 ne)
+pub closing_le : (s : List ℕ) → length (closing s) ≤ length s
+closing_le [] = omega arith
+closing_le (c ∷ s) =
+    elim (eqb c 44) as (λ b. suc (length (cond b [] (closing s))) ≤ suc (length s)) [ true ↦ omega arith | false ↦ omega (arith, closing_le s) ]
 
-closing_comma : (m : ℕ) (s : List ℕ) → m ≡ 44 → closing (m ∷ s) ≡ m ∷ []
-closing_comma m s e = ap (λ k. m ∷ cond (eqb k 44) [] (closing s)) e
+-- how many marks are closing, by the place of the first comma
+abbrev comma : List ℕ → ℕ
+comma s = position_or_len (λ c. eqb c 44) s
 
-pub close_more : (p t p1 t1 end m : ℕ) (out : List ℕ) → p1 ≡ p + 1 → t1 ≡ t + 1 → p ≤ t → t < end → end ≤ length out → m ≡ get_or out t 0 → (m ≡ 44 → ⊥) →
-    (length (closing (between t end out)) ≡ suc (length (closing (between t1 end (set out p m)))))
-    × (laid p1 (closing (between t1 end (set out p m))) (set out p m) ≡ laid p (closing (between t end out)) out)
-close_more p t p1 t1 end m out e f h lt w got ne =
-    let rest_same : between t1 end (set out p m) ≡ between t1 end out = between_set t1 end p m out (omega arith) in
-    let here : between t end out ≡ m ∷ between t1 end out =
-    between_cons t end out lt w ∙ ap (λ x. x ∷ between (t + 1) end out) (sym got) ∙ ap (λ k. m ∷ between k end out) (sym f) in
-    let all : closing (between t end out) ≡ m ∷ closing (between t1 end (set out p m)) =
-    ap closing here ∙ closing_other m (between t1 end out) ne ∙ ap (λ s. m ∷ closing s) (sym rest_same) in
-    let g : p1 ≡ suc p = omega arith in
-    (ap length all, ap (λ k. laid k (closing (between t1 end (set out p m))) (set out p m)) g ∙ sym (ap (λ s. laid p s out) all))
+closing_size : (s : List ℕ) → (comma s < length s → length (closing s) ≡ comma s + 1) × (length s ≤ comma s → length (closing s) ≡ length s)
+closing_size [] = (λ h. absurd (omega arith), λ h. refl)
+closing_size (c ∷ s) = pick (eqb c 44) (comma s) (closing_size s)
+  where
+    pick : (b : Bool) (p : ℕ) → (p < length s → length (closing s) ≡ p + 1) × (length s ≤ p → length (closing s) ≡ length s) →
+        (cond (not b) (1 + p) 0 < suc (length s) → suc (length (cond b [] (closing s))) ≡ cond (not b) (1 + p) 0 + 1) × (suc (length s) ≤ cond (not b) (1 + p) 0 → suc (length (cond b [] (closing s))) ≡ suc (length s))
+    pick true p h = (λ l. omega arith, λ l. absurd (omega arith))
+    pick false p h = (λ l. omega (arith, h.0 (omega arith)), λ l. omega (arith, h.1 (omega arith)))
 
-pub close_comma : (p t end m : ℕ) (out : List ℕ) → t < end → end ≤ length out → m ≡ get_or out t 0 → m ≡ 44 →
-    (length (closing (between t end out)) ≡ 1) × (set out p m ≡ laid p (closing (between t end out)) out)
-close_comma p t end m out lt w got e =
-    let here : between t end out ≡ m ∷ between (t + 1) end out = between_cons t end out lt w ∙ ap (λ x. x ∷ between (t + 1) end out) (sym got) in
-    let all : closing (between t end out) ≡ m ∷ [] = ap closing here ∙ closing_comma m (between (t + 1) end out) e in
-    (ap length all, sym (ap (λ s. laid p s out) all))
+pub closing_at : (s : List ℕ) (o : Option ℕ) → o ≡ position (λ c. eqb c 44) s → MatchOption o (length s ≡ length (closing s)) (λ i. i + 1 ≡ length (closing s))
+closing_at s o e =
+    let size = closing_size s in
+    subst (λ p. MatchOption p (length s ≡ length (closing s)) (λ i. i + 1 ≡ length (closing s))) (sym e)
+    (⊎_elim
+    (λ (lt : comma s < length s). rw (lt-ltb (comma s) (length s) lt) (sym (size.0 lt)))
+    (λ (le : length s ≤ comma s). rw (le-ltb (comma s) (length s) le) (sym (size.1 le)))
+    (cases_lt (comma s) (length s)))
+
+closing_front : (s : List ℕ) → take (length (closing s)) s ≡ closing s
+closing_front [] = refl
+closing_front (c ∷ s) =
+    ap (λ x. c ∷ x) (elim (eqb c 44) as (λ b. take (length (cond b [] (closing s))) s ≡ cond b [] (closing s)) [ true ↦ refl | false ↦ closing_front s ])
+
+-- the closing marks, copied
+pub closed_copy : (at top end n : ℕ) (out : List ℕ) → at ≤ top → top ≤ end → end ≤ length out → n ≡ length (closing (between top end out)) →
+    copy_within out top (top + n) at ≡ laid at (closing (between top end out)) out
+closed_copy at top end n out apart within whole count =
+    let s = between top end out in
+    let fits : length (closing s) ≤ end - top = omega (arith, closing_le s, length_between_in top end out within whole) in
+    let size : top + n - top ≡ length (closing s) = omega arith in
+    let part : take (length (closing s)) (drop top out) ≡ closing s = sym (take-take (length (closing s)) (end - top) (drop top out) fits) ∙ closing_front s in
+    ap (λ k. take at out ++ take k (drop top out) ++ drop (at + k) out) size
+    ∙ ap (λ x. take at out ++ x ++ drop (at + length (closing s)) out) part
+    ∙ append_assoc (take at out) (closing s) (drop (at + length (closing s)) out)
+    ∙ sym (laid_is at (closing s) out (omega arith))
 
 -- one node: lab is its own part, and ts are the texts ahead of it
 pub leaf_same : (lab out o1 new : List ℕ) (ts : List (List ℕ)) (i next top end k : ℕ) →

@@ -1,7 +1,9 @@
 -- Numerals, digit by digit from the last.
-use Rattle.std.proofs.Common.{◌≡◌, ℕ, ◌+◌, ◌/◌, ◌%◌, ◌^◌, ◌<◌, ◌≤◌, List, length, set, decimal, sym, ap, ◌∙◌, arith}
+use Rattle.std.proofs.Common.{◌≡◌, ℕ, zero, suc, ◌+◌, ◌-◌, ◌*◌, ◌/◌, ◌%◌, ◌^◌, ◌<◌, ◌≤◌, List, length, take, set, decimal, sym, ap, ◌∙◌, ⊎_elim, zero-lt-suc, pow-suc, arith}
+use native.Mathlib.Nat.{pow-le-pow_right}
 use Rattle.std.proofs.lemmas.Fmt.{decimal_digit, decimal_step, length-decimal-le}
-use Rattle.std.proofs.lemmas.List.{length_push}
+use Rattle.std.proofs.lemmas.Bool.{cases_lt}
+use Rattle.std.proofs.lemmas.List.{length_push, take_all}
 use Rattle.texts.specs.Layout.{laid}
 use Rattle.texts.proofs.Laid.{laid_push}
 
@@ -17,15 +19,34 @@ size_most n h = length-decimal-le 20 n (omega arith) (omega arith) h
 pub size_small : (n : ℕ) → n < 2 ^ 16 → length (decimal n) ≤ 5
 size_small n h = length-decimal-le 5 n (omega arith) (omega arith) (omega arith)
 
-pub laid_digit : (n i j : ℕ) (out : List ℕ) → 10 ≤ n → n < 2 ^ 64 → j + 1 ≡ i + length (decimal n) →
-    laid i (decimal (n / 10)) (set out j (48 + n % 10)) ≡ laid i (decimal n) out
-laid_digit n i j out ten h e =
-    let f : i + length (decimal (n / 10)) ≡ j = omega (arith, size_step n ten h) in
-    sym (ap (λ ds. laid i ds out) (decimal_step n ten h)
-    ∙ laid_push i (decimal (n / 10)) out (48 + n % 10)
-    ∙ ap (λ k. laid i (decimal (n / 10)) (set out k (48 + n % 10))) f)
+-- by its logarithm
+pub size_log : (k n : ℕ) → 10 ^ k ≤ n → n < 10 * 10 ^ k → n < 2 ^ 64 → length (decimal n) ≡ k + 1
+size_log zero n low high h = size_one n (omega arith)
+size_log (suc k) n low high h =
+    let p : 10 ^ suc k ≡ 10 ^ k * 10 = pow-suc 10 k in
+    let from : 0 ≤ k = omega arith in
+    let some : 10 ^ 0 ≤ 10 ^ k = pow-le-pow_right (zero-lt-suc 9) from in
+    omega (arith, size_step n (omega arith) h, size_log k (n / 10) (omega arith) (omega arith) (omega arith))
 
-pub laid_last : (n i j : ℕ) (out : List ℕ) → n < 10 → j + 1 ≡ i + length (decimal n) → set out j (48 + n) ≡ laid i (decimal n) out
-laid_last n i j out h e =
-    let f : j ≡ i = omega (arith, size_one n h) in
-    ap (λ k. set out k (48 + n)) f ∙ sym (ap (λ ds. laid i ds out) (decimal_digit n h))
+-- the last digit of what is left is written at j, and the others have room before it
+module _ (n i j : ℕ) (out : List ℕ) (small : n < 2 ^ 64) (room : j + 1 ≡ i + length (decimal n)) where
+  pub digits_left : i < j → j ≡ i + length (decimal (n / 10))
+  digits_left h =
+      ⊎_elim (λ (lt : n < 10). absurd (omega (arith, size_one n lt))) (λ (le : 10 ≤ n). omega (arith, size_step n le small)) (cases_lt n 10)
+
+  pub digit_laid : laid i (take (j - i) (decimal (n / 10))) (set out j (48 + n % 10)) ≡ laid i (decimal n) out
+  digit_laid =
+      ⊎_elim
+      (λ (lt : n < 10).
+      let here : j ≡ i = omega (arith, size_one n lt) in
+      let none : j - i ≡ 0 = omega arith in
+      let digit : n % 10 ≡ n = omega arith in
+      ap (λ k. laid i (take k (decimal (n / 10))) (set out j (48 + n % 10))) none
+      ∙ ap (λ k. set out k (48 + n % 10)) here ∙ ap (λ d. set out i (48 + d)) digit ∙ sym (ap (λ ds. laid i ds out) (decimal_digit n lt)))
+      (λ (le : 10 ≤ n).
+      let all : i + length (decimal (n / 10)) ≡ j = omega (arith, size_step n le small) in
+      ap (λ ds. laid i ds (set out j (48 + n % 10))) (take_all (j - i) (decimal (n / 10)) (omega arith))
+      ∙ sym (ap (λ ds. laid i ds out) (decimal_step n le small)
+      ∙ laid_push i (decimal (n / 10)) out (48 + n % 10)
+      ∙ ap (λ k. laid i (decimal (n / 10)) (set out k (48 + n % 10))) all))
+      (cases_lt n 10)

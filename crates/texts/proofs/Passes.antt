@@ -1,6 +1,6 @@
 -- The marks between the nodes of a text.
 use Rattle.std.proofs.Common.{◌≡◌, ℕ, zero, suc, ◌+◌, ◌≤◌, Bool, true, false, cond, eqb, List, [], ◌∷◌, ◌++◌, length, drop, sym, refl, ap, ◌∙◌, subst, append_assoc, append-nil, arith}
-use Rattle.std.proofs.lemmas.List.{drop_at, reverse-append}
+use Rattle.std.proofs.lemmas.List.{drop_at, nil_from_length, reverse-append}
 use Rattle.std.proofs.lemmas.Bool.{ne_eqb}
 use Rattle.texts.specs.Layout.{ahead, closing, opening}
 use Rattle.texts.specs.Listed.{headed}
@@ -74,18 +74,14 @@ closing_end s0 bytes i n before =
       more = sym before.comma;
     }
 
-nil_from : (xs : List ℕ) → length xs ≡ 0 → xs ≡ []
-nil_from [] e = refl
-nil_from (x ∷ xs) e = absurd (omega arith)
-
 -- the stacks are kept with their tops last: the mark m is taken off v, and u is left
 pub closing_pop : (s0 bytes v u : List ℕ) (i n m : ℕ) → v ≡ u ++ (m ∷ []) → Closing s0 (from_top v) bytes i n → Closing s0 (m ∷ from_top u) bytes i n
 closing_pop s0 bytes v u i n m e before = subst (λ s. Closing s0 s bytes i n) (ap from_top e ∙ top_push u m) before
 
 pub closing_empty : (s0 bytes v u : List ℕ) (i n : ℕ) → length v ≡ 0 → length u ≡ 0 → Closing s0 (from_top v) bytes i n → Passed 0 s0 (from_top u) bytes i n false
 closing_empty s0 bytes v u i n e f before =
-    subst (λ t. Passed 0 s0 t bytes i n false) (sym (ap from_top (nil_from u f)))
-    (closing_end s0 bytes i n (subst (λ s. Closing s0 s bytes i n) (ap from_top (nil_from v e)) before))
+    subst (λ t. Passed 0 s0 t bytes i n false) (sym (ap from_top (nil_from_length u f)))
+    (closing_end s0 bytes i n (subst (λ s. Closing s0 s bytes i n) (ap from_top (nil_from_length v e)) before))
 
 -- ---- after a node with children
 

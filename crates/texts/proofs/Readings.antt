@@ -1,6 +1,6 @@
 -- Reading the nodes of a text, one after the other.
 use Rattle.std.proofs.Common.{◌≡◌, ℕ, zero, suc, ◌+◌, ◌-◌, ◌<◌, ◌≤◌, Bool, true, false, cond, eqb, List, [], ◌∷◌, ◌++◌, length, take, drop, Some, None, Option, sym, refl, ap, ◌∙◌, subst, ⊎_elim, append_assoc, append-nil, arith, length-append, length-drop, take-append-drop}
-use Rattle.std.proofs.lemmas.List.{length-take-le, take_all, take_at}
+use Rattle.std.proofs.lemmas.List.{length-take-le, nil_from_length, take_all, take_at}
 use Rattle.std.proofs.lemmas.Bool.{cases_lt}
 use Rattle.std.specs.List.{slice_get, AllByRecursion}
 use Rattle.std.specs.Char.{is_ascii_digit}
@@ -181,10 +181,6 @@ take_part bytes i e xs h k is =
     omega (arith, length-append (take i bytes) xs, length-take-le i bytes h, ap length is, length-append xs (drop e bytes), length-drop i bytes, length-drop e bytes) in
     ap (take e) whole ∙ take_at (take i bytes ++ xs) (drop e bytes) e long
 
-nil_from : {X : Type 0} (xs : List X) → length xs ≡ 0 → xs ≡ []
-nil_from [] e = refl
-nil_from (x ∷ xs) e = absurd (omega arith)
-
 -- ---- the loop: list has been read up to the index i, where the marks s are due, and whether a node is due
 
 pub record Reading (bytes : List ℕ) (i : ℕ) (s : List ℕ) (due : Bool) (list : List Node) : Type 0 where
@@ -359,7 +355,7 @@ module _ (bytes : List ℕ) (i : ℕ) (s : List ℕ) (list : List Node) (before 
 module _ (bytes : List ℕ) (i : ℕ) (s : List ℕ) (list : List Node) (before : Reading bytes i s false list) where
   all_read : (m : Meaning) (g : ℕ) (t : Tree m (Some g)) (a : Ahead m t bytes i s false list) → (drop i bytes ≡ []) × (list ≡ stripped (nodes t))
   all_read m g t a =
-      let none : a.plans ≡ [] = nil_from a.plans (a.none_left refl) in (
+      let none : a.plans ≡ [] = nil_from_length a.plans (a.none_left refl) in (
         a.is ∙ ap (λ ps. ahead s (plan_texts m ps)) none ∙ ap (λ z. ahead z []) (before.closed refl),
         sym (append-nil list) ∙ ap (λ ps. list ++ stripped (plan_nodes m ps)) (sym none) ∙ a.whole,
       )
@@ -383,3 +379,22 @@ module _ (bytes : List ℕ) (i : ℕ) (s : List ℕ) (list : List Node) (before 
         same = read_so_far ∙ take_all i bytes h;
         plan = λ m law g t e. (all_read m g t (before.plan m law g t e)).1;
       }
+
+-- one turn of the loop: a node is read, and then its marks, from texts that are the same
+module _ (bytes at_node at_marks : List ℕ) (i e : ℕ) (s : List ℕ) (list : List Node) (before : Reading bytes i s true list) (n : Node) (k : ℕ) (found : Labelled at_node i n e)
+    (same : at_node ≡ bytes) (still : at_marks ≡ at_node) (has : k ≡ arity n.alternative.kind) where
+  label_read : Labelled bytes i n e
+  label_read = subst (λ x. Labelled x i n e) same found
+
+  marks_read : (p : ℕ) (u : List ℕ) (due : Bool) → Passed k s u at_marks e p due → Passed (arity n.alternative.kind) s u bytes e p due
+  marks_read p u due h = subst (λ j. Passed j s u bytes e p due) has (subst (λ x. Passed k s u x e p due) (still ∙ same) h)
+
+  pub turn_missed : (err : TextError) → NotPassed k s at_marks e err → NotRead bytes err
+  turn_missed err h =
+      no_marks bytes i s list before n e label_read err (subst (λ j. NotPassed j s bytes e err) has (subst (λ x. NotPassed k s x e err) (still ∙ same) h))
+
+  pub turn_shorter : (p : ℕ) (u : List ℕ) (due : Bool) → Passed k s u at_marks e p due → length bytes - p < length bytes - i
+  turn_shorter p u due h = shorter bytes i e p (arity n.alternative.kind) s u due n label_read (marks_read p u due h)
+
+  pub turn_read : (p : ℕ) (u : List ℕ) (due : Bool) (now : List Node) → Passed k s u at_marks e p due → now ≡ list ++ (n ∷ []) → Reading bytes p u due now
+  turn_read p u due now h pushed = subst (Reading bytes p u due) (sym pushed) (reading_more bytes i s list before n e label_read p u due (marks_read p u due h))

@@ -1,36 +1,28 @@
 -- The lines of the plans that have given numbers.
-use Rattle.std.proofs.Common.{◌≡◌, ℕ, zero, suc, ◌+◌, ◌*◌, ◌<◌, ◌≤◌, Bool, true, false, ◌||◌, leb, List, [], ◌∷◌, ◌++◌, length, get_or, take, drop, sym, refl, ap, ◌∙◌, subst, zero-add, arith, length-append}
+use Rattle.std.proofs.Common.{◌≡◌, ℕ, zero, suc, ◌+◌, ◌*◌, ◌<◌, ◌≤◌, false, ◌||◌, leb, List, [], ◌∷◌, ◌++◌, length, get_or, take, drop, sym, refl, ap, ◌∙◌, subst, append_assoc, append-nil, arith, length-append}
+use Rattle.std.specs.List.{list_any}
 use Rattle.std.proofs.lemmas.List.{drop_all, drop_more, take_at}
-use Rattle.std.proofs.lemmas.Bool.{le-leb, leb-false, lt-leb, or_left, or_parts}
+use Rattle.std.proofs.lemmas.Bool.{leb-false, or_parts}
 use Rattle.spaces.specs.Spaces.{Lawful, Meaning}
 use Rattle.numbering.specs.declared.node.Node.{Node}
-use Rattle.numbering.specs.declared.tally.Tally.{Tally}
 use Rattle.numbering.specs.Numbers.{Numbers}
 use Rattle.numbering.specs.Plans.{nodes}
 use Rattle.numbering.specs.Refusals.{plans}
 use Rattle.numbering.specs.Standing.{Written}
 use Rattle.numbering.proofs.Numberings.{numbering}
-use Rattle.texts.specs.Layout.{laid}
+use Rattle.texts.specs.declared.writer.Writer.{Writer}
 use Rattle.texts.specs.Listed.{text}
-use Rattle.texts.specs.Reports.{AreLines, IsLine, Measured, Prepared, Put, any_past, more, none}
+use Rattle.texts.specs.Reports.{AreLines, IsLine, Measured, Put, any_past, more, none}
 use Rattle.texts.specs.Texts.{line}
-use Rattle.texts.proofs.Laid.{laid_append}
+use Rattle.texts.specs.Writers.{HasSpace, Writes}
 use Rattle.texts.proofs.TreeTexts.{text_tree}
+use Rattle.texts.proofs.Writers.{space_after, writes_append}
 
 -- ---- numbers that no plan has
 
-past_more : (n : ℕ) (xs : List ℕ) (i : ℕ) → i < length xs → any_past n (drop i xs) ≡ (leb n (get_or xs i 0) || any_past n (drop (i + 1) xs))
-past_more n xs i h = ap (any_past n) (drop_more xs i 0 h)
-
-pub past_here : (n : ℕ) (xs : List ℕ) (i : ℕ) (goal : Bool) → i < length xs → n ≤ get_or xs i 0 → any_past n (drop i xs) ≡ goal → true ≡ goal
-past_here n xs i goal h le before = sym (past_more n xs i h ∙ or_left _ (any_past n (drop (i + 1) xs)) (le-leb n (get_or xs i 0) le)) ∙ before
-
-pub past_on : (n : ℕ) (xs : List ℕ) (i : ℕ) (goal : Bool) → i < length xs → get_or xs i 0 < n → any_past n (drop i xs) ≡ goal → any_past n (drop (i + 1) xs) ≡ goal
-past_on n xs i goal h lt before =
-    sym (past_more n xs i h ∙ ap (λ b. b || any_past n (drop (i + 1) xs)) (lt-leb n (get_or xs i 0) lt)) ∙ before
-
-pub past_end : (n : ℕ) (xs : List ℕ) (i : ℕ) (goal : Bool) → length xs ≤ i → any_past n (drop i xs) ≡ goal → false ≡ goal
-past_end n xs i goal h before = sym (ap (any_past n) (drop_all i xs h)) ∙ before
+pub any_past_list : (n : ℕ) (xs : List ℕ) → any_past n xs ≡ list_any (leb n) xs
+any_past_list n [] = refl
+any_past_list n (x ∷ xs) = ap (λ b. leb n x || b) (any_past_list n xs)
 
 pub each_below : (n : ℕ) (xs : List ℕ) → any_past n xs ≡ false → (i : ℕ) → i < length xs → get_or xs i 0 < n
 each_below n [] e i h = absurd (omega arith)
@@ -86,10 +78,6 @@ module _ (m : Meaning) (law : Lawful m) where
   pub written_few : (x n : ℕ) (old new : List Node) → Written m x n old new → length (take n new) ≤ 1024
   written_few x n old new w = omega (arith, ap length (part x n old new w), w.long, w.small)
 
-  pub prepared_again : (ts : List Tally) (w p w2 p2 : ℕ) → Prepared m ts w p → w2 ≡ w → p2 ≡ p → Prepared m ts w2 p2
-  prepared_again ts w p w2 p2 ready e f =
-      record { standing = ready.standing; work_room = omega (arith, ready.work_room); plan_room = omega (arith, ready.plan_room) }
-
   -- ---- the loops: what is measured or written so far, and what is left
 
   module _ (xs : List ℕ) where
@@ -99,54 +87,61 @@ module _ (m : Meaning) (law : Lawful m) where
     ended : (i : ℕ) → length xs ≤ i → AreLines m (drop i xs) []
     ended i h = subst (λ ys. AreLines m ys []) (sym (drop_all i xs h)) none
 
+    -- the lines so far, and those that are left
+    pub record Lines (i : ℕ) : Type 0 where
+      pub part : List ℕ
+      pub splits : (rest : List ℕ) → AreLines m (drop i xs) rest → AreLines m xs (part ++ rest)
+
+    abbrev no_lines : Lines 0
+    no_lines = record { part = []; splits = λ rest p. p }
+
+    abbrev more_lines : (i : ℕ) → i < length xs → Lines i → (l : List ℕ) → IsLine m (get_or xs i 0) l → Lines (i + 1)
+    more_lines i h before l p =
+        record {
+          part = before.part ++ l;
+          splits = λ rest ps. subst (AreLines m xs) (sym (append_assoc before.part l rest)) (before.splits (l ++ rest) (here i l rest h p ps));
+        }
+
+    all_lines : (i : ℕ) → length xs ≤ i → (before : Lines i) (bytes : List ℕ) → AreLines m xs bytes → before.part ≡ bytes
+    all_lines i h before bytes p = sym (append-nil before.part) ∙ one_report xs (before.part ++ []) bytes (before.splits [] (ended i h)) p
+
     pub record Measuring (i total : ℕ) : Type 0 where
-      pub adds : (rest bytes : List ℕ) → AreLines m (drop i xs) rest → AreLines m xs bytes → total + length rest ≡ length bytes
+      pub lines : Lines i
+      pub is : total ≡ length lines.part
       pub few : total ≤ 15382 * i
 
     pub measuring_start : Measuring 0 0
-    measuring_start = record { adds = λ rest bytes p q. zero-add (length rest) ∙ ap length (one_report xs rest bytes p q); few = omega arith }
+    measuring_start = record { lines = no_lines; is = refl; few = omega arith }
 
     pub measuring_more : (i total r : ℕ) → i < length xs → Measuring i total → Measured m (get_or xs i 0) r → Measuring (i + 1) (total + r)
     measuring_more i total r h before l =
         record {
-          adds = λ rest bytes p q.
-              omega (arith, before.adds (l.bytes ++ rest) bytes (here i l.bytes rest h l.line p) q, length-append l.bytes rest, l.long);
+          lines = more_lines i h before.lines l.bytes l.line;
+          is = omega (arith, before.is, l.long, length-append before.lines.part l.bytes);
           few = omega (arith, before.few, l.few);
         }
 
     pub measuring_end : (i total : ℕ) → length xs ≤ i → Measuring i total → (bytes : List ℕ) → AreLines m xs bytes → total ≡ length bytes
-    measuring_end i total h before bytes q = omega (arith, before.adds [] bytes (ended i h) q)
+    measuring_end i total h before bytes p = before.is ∙ ap length (all_lines i h before.lines bytes p)
 
-    pub record Writing (i at : ℕ) (old new : List ℕ) : Type 0 where
-      pub adds : (rest bytes : List ℕ) → AreLines m (drop i xs) rest → AreLines m xs bytes → at + length rest ≡ length bytes
-      pub same : (rest bytes : List ℕ) → AreLines m (drop i xs) rest → AreLines m xs bytes → laid at rest new ≡ laid 0 bytes old
+    pub record Writing (i : ℕ) (old new : Writer) : Type 0 where
+      pub lines : Lines i
+      pub writes : Writes old new lines.part
 
-    pub writing_start : (old : List ℕ) → Writing 0 0 old old
-    writing_start old =
-        record {
-          adds = λ rest bytes p q. zero-add (length rest) ∙ ap length (one_report xs rest bytes p q);
-          same = λ rest bytes p q. ap (λ b. laid 0 b old) (one_report xs rest bytes p q);
-        }
+    pub writing_start : (w : Writer) → Writing 0 w w
+    writing_start w = record { lines = no_lines; writes = record { same_buffer = refl; at = omega arith; long = refl; laid = refl } }
 
     -- a line has room, since all lines have
-    pub writing_room : (i at room : ℕ) (old new : List ℕ) → i < length xs → any_past (plans m) xs ≡ false → Writing i at old new →
-        ((bytes : List ℕ) → AreLines m xs bytes → length bytes ≤ room) → (l : List ℕ) → IsLine m (get_or xs i 0) l → at + length l ≤ room
-    writing_room i at room old new h below before fits l p =
-        let all = every_report xs below in
+    pub writing_room : (i : ℕ) (old new : Writer) → i < length xs → any_past (plans m) xs ≡ false → Writing i old new →
+        ((bytes : List ℕ) → AreLines m xs bytes → HasSpace old bytes) → (l : List ℕ) → IsLine m (get_or xs i 0) l → HasSpace new l
+    writing_room i old new h below before fits l p =
         let later = every_report (drop (i + 1) xs) (past_drop (plans m) xs below (i + 1)) in
-        omega (arith, before.adds (l ++ later.0) all.0 (here i l later.0 h p later.1) all.1, length-append l later.0, fits all.0 all.1)
+        let all = before.lines.splits (l ++ later.0) (here i l later.0 h p later.1) in
+        omega (arith, space_after old new before.lines.part (l ++ later.0) (fits (before.lines.part ++ (l ++ later.0)) all) before.writes, length-append l later.0)
 
-    pub writing_more : (i at r : ℕ) (old now new : List ℕ) → i < length xs → Writing i at old now → Put m (get_or xs i 0) at r now new → Writing (i + 1) r old new
-    writing_more i at r old now new h before l =
-        record {
-          adds = λ rest bytes p q.
-              omega (arith, before.adds (l.bytes ++ rest) bytes (here i l.bytes rest h l.line p) q, length-append l.bytes rest, l.end);
-          same = λ rest bytes p q.
-              ap (λ k. laid k rest new) l.end
-              ∙ ap (laid (at + length l.bytes) rest) l.buffer
-              ∙ sym (laid_append at l.bytes rest now)
-              ∙ before.same (l.bytes ++ rest) bytes (here i l.bytes rest h l.line p) q;
-        }
+    pub writing_more : (i : ℕ) (old now new : Writer) → i < length xs → Writing i old now → Put m (get_or xs i 0) now new → Writing (i + 1) old new
+    writing_more i old now new h before l =
+        record { lines = more_lines i h before.lines l.bytes l.line; writes = writes_append old now new before.lines.part l.bytes before.writes l.writes }
 
-    pub writing_end : (i at : ℕ) (old new : List ℕ) → length xs ≤ i → Writing i at old new → (bytes : List ℕ) → AreLines m xs bytes → new ≡ laid 0 bytes old
-    writing_end i at old new h before bytes q = before.same [] bytes (ended i h) q
+    pub writing_end : (i : ℕ) (old new : Writer) → length xs ≤ i → Writing i old new → (bytes : List ℕ) → AreLines m xs bytes → Writes old new bytes
+    writing_end i old new h before bytes p = subst (Writes old new) (all_lines i h before.lines bytes p) before.writes

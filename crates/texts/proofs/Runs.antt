@@ -1,18 +1,25 @@
 -- Numerals in a text: one without needless zeros that no digit follows is read in one way.
-use Rattle.std.proofs.Common.{◌≡◌, ℕ, zero, suc, ◌+◌, ◌-◌, ◌*◌, ◌^◌, ◌<◌, ◌≤◌, Bool, true, false, cond, List, [], ◌∷◌, ◌++◌, length, get_or, take, drop, decimal, sym, refl, ap, ◌∙◌, subst, zero-lt-suc, pow-suc, add-one, arith, length-drop, take-append-drop, rules}
-use native.Mathlib.Nat.{pow-le-pow_right}
-use Rattle.std.proofs.lemmas.Fmt.{decimal_digit, decimal_nonempty, decimal-digits_value, digits_decimal, first_decimal, length-decimal-le, decimal_injective, digits_value-decimal}
-use Rattle.std.proofs.lemmas.List.Edits.{between_more, get_or-between, length-between}
-use Rattle.std.proofs.lemmas.List.{drop_all, drop-drop, drop_more}
-use Rattle.std.proofs.lemmas.Str.Parse.{IsNumeralModel, digit_at, numerals_by_fold}
+use Rattle.std.proofs.Common.{◌≡◌, ℕ, zero, suc, ◌+◌, ◌-◌, ◌*◌, ◌<◌, ◌≤◌, Bool, true, false, cond, List, [], ◌∷◌, ◌++◌, length, get_or, take, drop, Some, None, Ok, Err, Result, decimal, sym, refl, ap, ◌∙◌, subst, one-add, arith, length-drop, take-append-drop, rules}
+use Rattle.std.proofs.lemmas.Fmt.{decimal_digit, decimal_nonempty, decimal-digits_value, digits_decimal, first_decimal, IsAscii-from_digits, decimal_injective, digits_value-decimal}
+use Rattle.std.proofs.lemmas.List.{drop-drop}
+use Rattle.std.proofs.lemmas.List.Sums.{prefix_len-le-length}
+use Rattle.std.proofs.lemmas.Str.{IsUtf8-from_ascii}
+use Rattle.std.proofs.lemmas.Str.Parse.{IsNumeralModel, numerals_by_fold, parse_digits}
 use Rattle.std.proofs.lemmas.Bool.{and_from, and_parts}
-use Rattle.std.specs.List.{between}
-use Rattle.std.specs.Str.{all_ascii_digits}
-use Rattle.std.specs.Int.{IsInRange}
+use Rattle.std.specs.List.{between, prefix_len}
+use Rattle.std.specs.Option.{MatchOption}
+use Rattle.std.specs.Result.{result_ok}
+use Rattle.std.specs.Str.{IsUtf8, all_ascii_digits}
+use Rattle.std.specs.Str.Parse.{ParsesUnsigned}
 use Rattle.std.specs.Char.{is_ascii_digit}
-use Rattle.texts.specs.Parts.{NoDigit, Run, Stands, read_on}
+use Rattle.texts.specs.Parts.{NoDigit, NumberAt, Run, Stands}
 
-pub own : IsNumeralModel (λ ds. all_ascii_digits ds ≡ true) (read_on 0)
+-- the number that digits write, after n
+abbrev read_on : ℕ → List ℕ → ℕ
+read_on n [] = n
+read_on n (c ∷ cs) = read_on (10 * n + (c - 48)) cs
+
+own : IsNumeralModel (λ ds. all_ascii_digits ds ≡ true) (read_on 0)
 own = numerals_by_fold _ (search rules) read_on (search rules)
 
 pub clash : {R : Type 0} (b : Bool) → b ≡ true → b ≡ false → R
@@ -50,96 +57,73 @@ same_end e f bytes h k s = omega (arith, ap length s, length-drop e bytes, lengt
 
 -- ---- the run of digits at an index
 
-pub run_none : (bytes : List ℕ) (i : ℕ) → all_ascii_digits (between i i bytes) ≡ true
-run_none bytes i = let e : i - i ≡ 0 = omega arith in ap (λ k. all_ascii_digits (take k (drop i bytes))) e
+digits_front : (xs : List ℕ) → all_ascii_digits (take (prefix_len is_ascii_digit xs) xs) ≡ true
+digits_front [] = refl
+digits_front (x ∷ xs) = pick (is_ascii_digit x) refl (digits_front xs)
+  where
+    pick : (b : Bool) → is_ascii_digit x ≡ b → all_ascii_digits (take (prefix_len is_ascii_digit xs) xs) ≡ true → all_ascii_digits (take (cond b (1 + prefix_len is_ascii_digit xs) 0) (x ∷ xs)) ≡ true
+    pick true e more = rw one-add (and_from (is_ascii_digit x) (all_ascii_digits (take (prefix_len is_ascii_digit xs) xs)) e more)
+    pick false e more = refl
 
-digits_push : (ds : List ℕ) (c : ℕ) → all_ascii_digits ds ≡ true → is_ascii_digit c ≡ true → all_ascii_digits (ds ++ (c ∷ [])) ≡ true
-digits_push [] c p d = and_from (is_ascii_digit c) true d refl
-digits_push (x ∷ ds) c p d =
-    let q = and_parts (is_ascii_digit x) (all_ascii_digits ds) p in
-    and_from (is_ascii_digit x) (all_ascii_digits (ds ++ (c ∷ []))) q.0 (digits_push ds c q.1 d)
+no_digit_after : (xs : List ℕ) → NoDigit (drop (prefix_len is_ascii_digit xs) xs)
+no_digit_after [] = tt
+no_digit_after (x ∷ xs) = pick (is_ascii_digit x) refl (no_digit_after xs)
+  where
+    pick : (b : Bool) → is_ascii_digit x ≡ b → NoDigit (drop (prefix_len is_ascii_digit xs) xs) → NoDigit (drop (cond b (1 + prefix_len is_ascii_digit xs) 0) (x ∷ xs))
+    pick true e more = rw one-add more
+    pick false e more = e
 
-pub run_more : (bytes : List ℕ) (i e : ℕ) → i ≤ e → e < length bytes → all_ascii_digits (between i e bytes) ≡ true → is_ascii_digit (get_or bytes e 0) ≡ true → all_ascii_digits (between i (e + 1) bytes) ≡ true
-run_more bytes i e h l p d = ap all_ascii_digits (between_more bytes i e 0 h l) ∙ digits_push (between i e bytes) (get_or bytes e 0) p d
-
-pub run_stops : (bytes : List ℕ) (i e : ℕ) → i ≤ e → e < length bytes → all_ascii_digits (between i e bytes) ≡ true → is_ascii_digit (get_or bytes e 0) ≡ false → Run bytes i e
-run_stops bytes i e h l p d = record { from = h; to = omega arith; digits = p; ends = subst NoDigit (sym (drop_more bytes e 0 l)) d }
-
-pub run_ends : (bytes : List ℕ) (i e : ℕ) → i ≤ e → e ≤ length bytes → length bytes ≤ e → all_ascii_digits (between i e bytes) ≡ true → Run bytes i e
-run_ends bytes i e h k l p = record { from = h; to = k; digits = p; ends = subst NoDigit (sym (drop_all e bytes l)) tt }
-
--- ---- what digits write
-
-pub digit_in : (ds : List ℕ) (i : ℕ) → all_ascii_digits ds ≡ true → i < length ds → IsInRange 48 57 (get_or ds i 0)
-digit_in ds i p h = digit_at ds i (own.to ds p) h
-
-pub value_more : (ds : List ℕ) (i n : ℕ) → i < length ds → read_on n (drop i ds) ≡ read_on (10 * n + (get_or ds i 0 - 48)) (drop (i + 1) ds)
-value_more ds i n h = ap (read_on n) (drop_more ds i 0 h)
-
-pub value_all : (ds : List ℕ) (i n : ℕ) → length ds ≤ i → read_on n (drop i ds) ≡ n
-value_all ds i n h = ap (read_on n) (drop_all i ds h)
-
-pub ten_more : (i n d : ℕ) → n < 10 ^ i → d ≤ 9 → 10 * n + d < 10 ^ (i + 1)
-ten_more i n d h k =
-    let e : 10 ^ (i + 1) ≡ 10 ^ i * 10 = ap (λ j. 10 ^ j) (add-one i) ∙ pow-suc 10 i in
-    let p : 10 * n + d < 10 ^ i * 10 = omega arith in
-    subst (λ x. 10 * n + d < x) (sym e) p
-
-pub ten_most : (i : ℕ) → i ≤ 4 → 10 ^ i ≤ 10000
-ten_most i h = pow-le-pow_right (zero-lt-suc 9) h
+pub run_at : (bytes : List ℕ) (i n : ℕ) → i ≤ length bytes → n ≡ prefix_len is_ascii_digit (drop i bytes) → Run bytes i (i + n)
+run_at bytes i n h e =
+    let size : i + n - i ≡ n = omega arith in
+    record {
+      from = omega arith;
+      to = omega (arith, e, prefix_len-le-length is_ascii_digit (drop i bytes), length-drop i bytes);
+      digits = ap (λ k. all_ascii_digits (take k (drop i bytes))) (size ∙ e) ∙ digits_front (drop i bytes);
+      ends = subst NoDigit (drop-drop n i bytes) (subst (λ k. NoDigit (drop k (drop i bytes))) (sym e) (no_digit_after (drop i bytes)));
+    }
 
 -- ---- the number that stands at an index
 
 decimal_digits : (n : ℕ) → n < 65536 → all_ascii_digits (decimal n) ≡ true
 decimal_digits n h = digits_decimal own n (omega arith)
 
--- a numeral is all digits of its run
-run_is : (bytes : List ℕ) (i e f n : ℕ) → n < 65536 → Run bytes i e → Stands (decimal n) bytes i f → (between i e bytes ≡ decimal n) × (e ≡ f)
-run_is bytes i e f n h r s =
-    let both = one_split (between i e bytes) (decimal n) (drop e bytes) (drop f bytes) r.digits (decimal_digits n h) r.ends s.ends (sym (drop_between i e bytes r.from) ∙ s.is) in
-    (both.front, same_end e f bytes r.to s.to both.back)
-
--- no numeral where there is no digit, or more than five, or a needless zero, or too large a value
-pub number_empty : (bytes : List ℕ) (i e : ℕ) → Run bytes i e → e ≡ i → (n f : ℕ) → n < 65536 → Stands (decimal n) bytes i f → ⊥
-number_empty bytes i e r same n f h s =
-    let both = run_is bytes i e f n h r s in
-    omega (arith, decimal_nonempty n (omega arith), ap length both.0, length-between bytes i e r.to)
-
-pub number_long : (bytes : List ℕ) (i e : ℕ) → Run bytes i e → 5 < e - i → (n f : ℕ) → n < 65536 → Stands (decimal n) bytes i f → ⊥
-number_long bytes i e r long n f h s =
-    let both = run_is bytes i e f n h r s in
-    omega (arith, length-decimal-le 5 n (omega arith) (omega arith) (omega arith), ap length both.0, length-between bytes i e r.to)
-
 zero_first : (n : ℕ) → n < 65536 → get_or (decimal n) 0 0 ≡ 48 → length (decimal n) ≡ 1
 zero_first zero h e = ap length (decimal_digit 0 (omega arith))
 zero_first (suc n) h e = absurd (omega (arith, first_decimal (suc n) (omega arith) (omega arith), e))
 
-first_between : (bytes : List ℕ) (i e : ℕ) → i < e → get_or (between i e bytes) 0 0 ≡ get_or bytes i 0
-first_between bytes i e h = get_or-between bytes i e 0 0 (omega arith) ∙ (let k : i + 0 ≡ i = omega arith in ap (λ j. get_or bytes j 0) k)
+module _ (bytes ds : List ℕ) (i e : ℕ) (r : Run bytes i e) (is : ds ≡ between i e bytes) where
+  all_digits : all_ascii_digits ds ≡ true
+  all_digits = ap all_ascii_digits is ∙ r.digits
 
-pub number_zero : (bytes : List ℕ) (i e : ℕ) → Run bytes i e → get_or bytes i 0 ≡ 48 → 1 < e - i → (n f : ℕ) → n < 65536 → Stands (decimal n) bytes i f → ⊥
-number_zero bytes i e r first long n f h s =
-    let both = run_is bytes i e f n h r s in
-    let one : length (decimal n) ≡ 1 = zero_first n h (sym (ap (λ ds. get_or ds 0 0) both.0) ∙ first_between bytes i e (omega arith) ∙ first) in
-    omega (arith, one, ap length both.0, length-between bytes i e r.to)
+  pub digits_utf8 : IsUtf8 ds
+  digits_utf8 = IsUtf8-from_ascii ds (IsAscii-from_digits ds (own.to ds all_digits))
 
-pub number_large : (bytes : List ℕ) (i e v : ℕ) → Run bytes i e → v ≡ read_on 0 (between i e bytes) → 65535 < v → (n f : ℕ) → n < 65536 → Stands (decimal n) bytes i f → ⊥
-number_large bytes i e v r is large n f h s =
-    let both = run_is bytes i e f n h r s in
-    omega (arith, is, ap (read_on 0) both.0, digits_value-decimal own n (omega arith))
+  -- a numeral is all digits of its run
+  run_is : (f n : ℕ) → n < 65536 → Stands (decimal n) bytes i f → (ds ≡ decimal n) × (e ≡ f)
+  run_is f n h s =
+      let both = one_split (between i e bytes) (decimal n) (drop e bytes) (drop f bytes) r.digits (decimal_digits n h) r.ends s.ends (sym (drop_between i e bytes r.from) ∙ s.is) in
+      (is ∙ both.front, same_end e f bytes r.to s.to both.back)
 
-pub number_stands : (bytes : List ℕ) (i e v : ℕ) → Run bytes i e → (e ≡ i → ⊥) → (get_or bytes i 0 ≡ 48 → e - i ≤ 1) → v ≡ read_on 0 (between i e bytes) → v ≤ 65535 → Stands (decimal v) bytes i e
-number_stands bytes i e v r some plain is small =
-    let ds : List ℕ = between i e bytes in
-    let size : length ds ≡ e - i = length-between bytes i e r.to in
-    let h : i < e = omega (arith, r.from) in
-    let d : decimal (read_on 0 ds) ≡ ds =
-    decimal-digits_value own ds r.digits (omega arith) (λ z. omega (arith, plain (sym (first_between bytes i e h) ∙ z))) (omega arith) in
-    record {
-      to = r.to;
-      is = drop_between i e bytes r.from ∙ ap (λ x. x ++ drop e bytes) (sym (ap decimal is ∙ d));
-      ends = r.ends;
-    }
+  -- no number where there is a needless zero
+  pub number_zero : get_or ds 0 0 ≡ 48 → 1 < length ds → NumberAt bytes i None
+  number_zero first long n f h s =
+      let all = (run_is f n h s).0 in
+      omega (arith, zero_first n h (sym (ap (λ xs. get_or xs 0 0) all) ∙ first), ap length all)
+
+  -- else there is one where it can be parsed
+  pub number_parsed : {E : Type 0} (p : Result ℕ E) → (get_or ds 0 0 ≡ 48 → length ds ≤ 1) → ParsesUnsigned 16 10 ds p →
+      MatchOption (result_ok p) (NumberAt bytes i None) (λ n. NumberAt bytes i (Some (n, e)))
+  number_parsed {E} (Ok n) plain parsed =
+      let given = parse_digits own {E = E} 16 ds (Ok n) parsed all_digits in
+      let same : decimal n ≡ ds = ap decimal given.1 ∙ decimal-digits_value own ds all_digits given.0.0 (λ z. omega (arith, plain z, given.0.0)) (omega (arith, given.0.1)) in (
+        record { to = r.to; is = drop_between i e bytes r.from ∙ ap (λ x. x ++ drop e bytes) (sym (same ∙ is)); ends = r.ends },
+        omega (arith, given.0.1, given.1),
+      )
+  number_parsed {E} (Err err) plain parsed = λ n f h s.
+      let all = (run_is f n h s).0 in
+      let value : read_on 0 ds ≡ n = ap (read_on 0) all ∙ digits_value-decimal own n (omega arith) in
+      parse_digits own {E = E} 16 ds (Err err) parsed all_digits (omega (arith, decimal_nonempty n (omega arith), ap length all), omega arith)
 
 pub one_number : (bytes : List ℕ) (i e f a b : ℕ) → a < 65536 → b < 65536 → Stands (decimal a) bytes i e → Stands (decimal b) bytes i f → (a ≡ b) × (e ≡ f)
 one_number bytes i e f a b ha hb s t =

@@ -1,5 +1,5 @@
 -- One node's turn, and the list of nodes at an index.
-use Rattle.std.proofs.Common.{◌≡◌, ℕ, suc, ◌+◌, ◌-◌, ◌<◌, ◌≤◌, true, false, cond, eqb, List, [], ◌∷◌, ◌++◌, length, get_or, take, drop, set, decimal, sym, ap, ◌∙◌, add-one, arith, length-append, take-append-drop}
+use Rattle.std.proofs.Common.{◌≡◌, ℕ, suc, ◌+◌, ◌-◌, ◌<◌, ◌≤◌, List, ◌∷◌, ◌++◌, length, get_or, take, drop, set, decimal, sym, ap, ◌∙◌, arith, length-append, take-append-drop}
 use Rattle.std.specs.List.{between}
 use Rattle.std.proofs.lemmas.List.{drop_more, drop_all, drop-drop}
 use Rattle.numbering.specs.declared.node.Node.{Node}
@@ -9,9 +9,9 @@ use Rattle.spaces.specs.Kinds.{arity}
 use Rattle.texts.specs.Layout.{laid, closing, ahead, text_size, own_size, marks, Turned}
 use Rattle.texts.specs.Listed.{headed, texts, text}
 use Rattle.texts.specs.Texts.{label}
-use Rattle.texts.proofs.Laid.{length_laid, laid_append, laid_is}
+use Rattle.texts.proofs.Laid.{length_laid, laid_is}
 use Rattle.texts.proofs.Forests.{flat_texts, ahead_start, ahead_end}
-use Rattle.texts.proofs.Marks.{leaf_same, one_same, two_same, between_end, length_between_in}
+use Rattle.texts.proofs.Marks.{closing_le, leaf_same, one_same, two_same, between_end, length_between_in}
 
 abbrev pub blank : Node
 blank = record { goal = 0; alternative = record { kind = Scan; tag = 0; left = 0; right = 0 } }
@@ -30,23 +30,6 @@ label_size k t g = ap suc (length-append (decimal t) (64 ∷ decimal g)) ∙ ome
 
 pub own_at : (n : Node) (k : ℕ) → arity n.alternative.kind ≡ k → own_size n ≡ 2 + length (decimal n.alternative.tag) + length (decimal n.goal) + marks k
 own_at n k e = ap (λ j. length (label n) + marks j) e ∙ ap (λ j. j + marks k) (label_size 0 n.alternative.tag n.goal)
-
-pub laid_label : (l t g k at sign : ℕ) (out o1 o2 : List ℕ) → k ≡ l →
-    sign ≡ (at + 1) + length (decimal t) → o1 ≡ laid (at + 1) (decimal t) (set out at k) → o2 ≡ laid (sign + 1) (decimal g) (set o1 sign 64) →
-    o2 ≡ laid at (l ∷ (decimal t ++ (64 ∷ decimal g))) out
-laid_label l t g k at sign out o1 o2 e es e1 e2 =
-    e2
-    ∙ ap (λ n. laid n (decimal g) (set o1 sign 64)) (add-one sign)
-    ∙ ap (λ n. laid n (64 ∷ decimal g) o1) es
-    ∙ ap (laid ((at + 1) + length (decimal t)) (64 ∷ decimal g)) e1
-    ∙ sym (laid_append (at + 1) (decimal t) (64 ∷ decimal g) (set out at k))
-    ∙ ap (λ n. laid n (decimal t ++ (64 ∷ decimal g)) (set out at k)) (add-one at)
-    ∙ ap (λ n. laid (suc at) (decimal t ++ (64 ∷ decimal g)) (set out at n)) e
-
-pub closing_le : (s : List ℕ) → length (closing s) ≤ length s
-closing_le [] = omega arith
-closing_le (c ∷ s) =
-    elim (eqb c 44) as (λ b. suc (length (cond b [] (closing s))) ≤ suc (length s)) [ true ↦ omega arith | false ↦ omega (arith, closing_le s) ]
 
 pub closed_le : (top end : ℕ) (o : List ℕ) → top ≤ end → end ≤ length o → length (closing (between top end o)) ≤ end - top
 closed_le top end o h w = omega (arith, closing_le (between top end o), length_between_in top end o h w)

@@ -7,3 +7,4 @@ pub mod Places
 pub mod Reads
 pub mod Reports
 pub mod Texts
+pub mod Writers

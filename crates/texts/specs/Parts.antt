@@ -1,5 +1,5 @@
 -- What stands at an index of a text: a number, a node's own part, a byte.
-use Rattle.std.specs.Prelude.{◌≡◌, ℕ, ◌+◌, ◌-◌, ◌*◌, ◌<◌, ◌≤◌, Bool, true, false, ◌&&◌, List, [], ◌∷◌, ◌++◌, length, drop, Some, None, decimal, Option, ◌==◌, nat_lt, slice_index}
+use Rattle.std.specs.Prelude.{◌≡◌, ℕ, ◌<◌, ◌≤◌, Bool, true, false, ◌&&◌, List, [], ◌∷◌, ◌++◌, length, drop, Some, None, decimal, Option, ◌==◌, nat_lt, slice_index}
 use Rattle.std.specs.List.{between}
 use Rattle.std.specs.Str.{all_ascii_digits}
 use Rattle.std.specs.Char.{is_ascii_digit}
@@ -18,11 +18,6 @@ pub record Run (bytes : List ℕ) (i e : ℕ) : Type 0 where
   pub to : e ≤ length bytes
   pub digits : all_ascii_digits (between i e bytes) ≡ true
   pub ends : NoDigit (drop e bytes)
-
--- the number that digits write, after n
-abbrev pub read_on : ℕ → List ℕ → ℕ
-read_on n [] = n
-read_on n (c ∷ cs) = read_on (10 * n + (c - 48)) cs
 
 -- what is written at the index i is `part`, up to e, and no digit follows
 pub record Stands (part bytes : List ℕ) (i e : ℕ) : Type 0 where

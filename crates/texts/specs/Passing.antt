@@ -2,6 +2,8 @@
 use Rattle.std.specs.Prelude.{◌≡◌, ℕ, zero, suc, ◌≤◌, Bool, true, false, cond, List, [], ◌∷◌, ◌++◌, reverse, length, drop, ◌==◌}
 use Rattle.texts.specs.declared.error.TextError.{TextError}
 use Rattle.texts.specs.declared.error.TextError.TheVariants.{BytesFollow, NoMark, NoMemory, NoNode}
+use Rattle.texts.specs.declared.punctuation.Next.{Next}
+use Rattle.texts.specs.declared.punctuation.Next.TheVariants.{End, Node}
 use Rattle.texts.specs.Layout.{closing, opening}
 use Rattle.texts.specs.Parts.{byte_at}
 
@@ -28,6 +30,11 @@ has_comma (c ∷ s) = cond (c == 44) true (has_comma s)
 abbrev pub goes_on : ℕ → List ℕ → Bool
 goes_on zero s = has_comma s
 goes_on (suc k) s = true
+
+-- what follows the marks, as it is told
+abbrev pub node_follows : Next → Bool
+node_follows Node = true
+node_follows End = false
 
 -- the marks that follow a node of k children have been passed, up to e
 pub record Passed (k : ℕ) (s t bytes : List ℕ) (i e : ℕ) (goes : Bool) : Type 0 where

@@ -1,16 +1,15 @@
 -- The lines of the plans that have given numbers, and what the calls that write them check and answer.
-use Rattle.std.specs.Prelude.{◌≡◌, ℕ, ◌+◌, ◌≤◌, Bool, false, ◌||◌, List, [], ◌∷◌, ◌++◌, length, Some, None, Err, Option, Result, nat_le}
+use Rattle.std.specs.Prelude.{◌≡◌, ℕ, ◌≤◌, Bool, false, ◌||◌, List, [], ◌∷◌, ◌++◌, length, Some, None, Err, Option, Result, nat_le}
 use Rattle.spaces.specs.Spaces.{Meaning}
 use Rattle.numbering.specs.declared.node.Node.{Node}
 use Rattle.numbering.specs.declared.refusal.Refusal.{Refusal}
 use Rattle.numbering.specs.declared.refusal.Refusal.TheVariants.{NoSuchPlan}
-use Rattle.numbering.specs.declared.tally.Tally.{Tally}
 use Rattle.numbering.specs.Plans.{Tree, number}
 use Rattle.numbering.specs.Ranks.{write_checks}
 use Rattle.numbering.specs.Refusals.{largest, plans}
-use Rattle.numbering.specs.Standing.{Standing}
-use Rattle.texts.specs.Layout.{laid}
+use Rattle.texts.specs.declared.writer.Writer.{Writer}
 use Rattle.texts.specs.Texts.{Spelled, line, tree_text}
+use Rattle.texts.specs.Writers.{Writes}
 
 -- the bytes are the line of the complete plan that has the number x
 pub record IsLine (m : Meaning) (x : ℕ) (bytes : List ℕ) : Type 0 where
@@ -47,9 +46,8 @@ abbrev pub Untouched : Option Refusal → List Node → List Node → Type 0
 Untouched (Some e) old new = new ≡ old
 Untouched None old new = Unit {0}
 
--- tallies and buffers with which every plan of m can be written
-pub record Prepared (m : Meaning) (ts : List Tally) (work plan : ℕ) : Type 0 where
-  pub standing : Standing m ts
+-- buffers in which every plan of m can be written
+pub record HasRoom (m : Meaning) (work plan : ℕ) : Type 0 where
   pub work_room : largest m ≤ work
   pub plan_room : largest m ≤ plan
 
@@ -60,9 +58,8 @@ pub record Measured (m : Meaning) (x r : ℕ) : Type 0 where
   pub long : r ≡ length bytes
   pub few : r ≤ 15382
 
--- the line of the number x has been written at i, and ends before r
-pub record Put (m : Meaning) (x i r : ℕ) (old new : List ℕ) : Type 0 where
+-- the line of the number x has been written
+pub record Put (m : Meaning) (x : ℕ) (old new : Writer) : Type 0 where
   pub bytes : List ℕ
   pub line : IsLine m x bytes
-  pub end : r ≡ i + length bytes
-  pub buffer : new ≡ laid i bytes old
+  pub writes : Writes old new bytes

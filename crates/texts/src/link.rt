@@ -15,13 +15,7 @@ fn take_child(goals: &mut Vec<u16>, wanted: bool) -> u16
     ensures goal { result ≡ child wanted (from_top goals.old.items) }
     ensures goals { from_top goals.new.items ≡ others wanted (from_top goals.old.items) }
 {
-    if !wanted {
-        return 0;
-    }
-    match goals.pop() {
-        Some(goal) => goal,
-        None => 0,
-    }
+    if wanted { goals.pop().unwrap_or(0) } else { 0 }
 }
 
 /// Gives each node the goals of its children, from the last node to the first.
@@ -29,22 +23,20 @@ pub(crate) fn link(heap: Global, nodes: &mut [Node]) -> Result<(), TextError>
     ensures { MatchResult result (λ _. nodes.new ≡ linked nodes.old) (λ e. e ≡ NoMemory) }
 {
     let mut goals: Vec<u16> = Vec::new(heap);
-    let mut i = nodes.len();
-    while i > 0 {
-        i -= 1;
-        let node = nodes[i];
+    // By index, since no proof knows what a loop over `iter_mut().rev()` has written.
+    for index in (0..nodes.len()).rev() {
+        let node = nodes[index];
         let arity = node.alternative.kind.arity();
         let left = take_child(&mut goals, arity >= 1);
         let right = take_child(&mut goals, arity == 2);
         let alternative = Alternative {
-            kind: node.alternative.kind,
-            tag: node.alternative.tag,
             left,
             right,
+            ..node.alternative
         };
-        nodes[i] = Node {
-            goal: node.goal,
+        nodes[index] = Node {
             alternative,
+            ..node
         };
         goals.push(node.goal)?;
     }

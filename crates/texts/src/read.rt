@@ -3,10 +3,10 @@
 ghost use Rattle.std.specs.Prelude.{MatchResult};
 ghost use Rattle.texts.specs.Reads.{NodesRead, NotRead, ReadAs};
 
+use crate::cursor::Cursor;
 use crate::error::TextError;
-use crate::label::read_label;
 use crate::link::link;
-use crate::punctuation::pass_marks;
+use crate::punctuation::{Next, pass_marks};
 use numbering::node::Node;
 use std::alloc::Global;
 
@@ -14,19 +14,20 @@ use std::alloc::Global;
 fn read_nodes(heap: Global, text: &[u8]) -> Result<Vec<Node>, TextError>
     ensures { MatchResult result (λ v. NodesRead text.now v.items) (λ e. NotRead text.now e) }
 {
+    let mut cursor = Cursor::new(text);
     let mut nodes: Vec<Node> = Vec::new(heap);
     let mut marks: Vec<u8> = Vec::new(heap);
-    let mut at: usize = 0;
-    let mut due = true;
-    while due {
-        let Some((node, next)) = read_label(text, at) else {
-            return Err(TextError::NoNode(at));
-        };
+    loop {
+        let start = cursor.at;
+        let node = cursor.label().ok_or(TextError::NoNode(start))?;
         nodes.push(node)?;
-        (at, due) = pass_marks(text, next, node.alternative.kind.arity(), &mut marks)?;
+        match pass_marks(&mut cursor, node.alternative.kind.arity(), &mut marks)? {
+            Next::Node => {}
+            Next::End => break,
+        }
     }
-    if at < text.len() {
-        return Err(TextError::BytesFollow(at));
+    if cursor.at < text.len() {
+        return Err(TextError::BytesFollow(cursor.at));
     }
     Ok(nodes)
 }

@@ -6,14 +6,17 @@
 ghost use Rattle.std.specs.Prelude.{◌≡◌, ℕ, ◌+◌, ◌<◌, ◌≤◌, false, List, length};
 ghost use Rattle.numbering.specs.Ranks.{unrank_checks, write_checks};
 ghost use Rattle.numbering.specs.Refusals.{after_tally, first_of, plans};
-ghost use Rattle.texts.specs.Layout.{laid};
-ghost use Rattle.texts.specs.Reports.{AreLines, IsLine, Lined, Measured, Prepared, Put, Reported, Untouched, any_past, report_checks};
+ghost use Rattle.texts.specs.Reports.{AreLines, HasRoom, IsLine, Lined, Measured, Put, Reported, Untouched, any_past, report_checks};
+ghost use Rattle.texts.specs.Writers.{HasSpace, Writes};
 
-use crate::line::{line_length, put_line};
+use crate::line::line_length;
+use crate::writer::Writer;
+use numbering::counted::Counted;
 use numbering::due::Due;
 use numbering::node::Node;
 use numbering::ready::ready_to_write;
 use numbering::refusal::Refusal;
+use numbering::tallied::Tallied;
 use numbering::tally::Tally;
 use numbering::writing::write_plan;
 use spaces::space::Space;
@@ -22,85 +25,75 @@ use spaces::space::Space;
 fn any_past_limit(numbers: &[u64], limit: u64) -> bool
     ensures { result ≡ any_past limit numbers.now }
 {
-    for number in numbers {
-        if *number >= limit {
-            return true;
-        }
-    }
-    false
+    numbers.iter().any(|number| *number >= limit)
 }
 
+// The space and its two buffers are passed one by one: a struct that holds them would owe, in each method, a clause that the space is the same.
+
 /// How long the line of the plan with this number is.
-fn measure_line<S: Space>(
-    space: &S,
-    number: u64,
-    tallies: &[Tally],
-    work: &mut [Due],
-    plan: &mut [Node],
-) -> u128
-    requires prepared { Prepared (S.meaning space.now) tallies.now (length work.old) (length plan.old) }
-    requires below { number < plans (S.meaning space.now) }
-    ensures { Measured (S.meaning space.now) number result }
+#[tactic(auto, using(crate::proofs::Reports::written_fits, crate::proofs::Reports::written_long))]
+fn measure_line<C: Counted>(counted: &C, number: u64, work: &mut [Due], plan: &mut [Node]) -> u128
+    requires room_for_plan { HasRoom (C.meaning counted.now) (length work.old) (length plan.old) }
+    requires below { number < plans (C.meaning counted.now) }
+    ensures { Measured (C.meaning counted.now) number result }
 {
-    let len = write_plan(space, number, tallies, work, plan);
+    let len = write_plan(counted, number, work, plan);
     line_length(number, &plan[..len])
 }
 
-/// Writes the line of the plan with this number at `at` and gives the index after it.
-fn write_line<S: Space>(
-    space: &S,
+/// Writes the line of the plan with this number.
+#[tactic(auto, using(crate::proofs::Reports::written_fits, crate::proofs::Reports::written_long))]
+fn write_line<C: Counted>(
+    counted: &C,
     number: u64,
-    tallies: &[Tally],
     work: &mut [Due],
     plan: &mut [Node],
-    out: &mut [u8],
-    at: usize,
-) -> usize
-    requires prepared { Prepared (S.meaning space.now) tallies.now (length work.old) (length plan.old) }
-    requires below { number < plans (S.meaning space.now) }
-    requires room { (bytes : List ℕ) → IsLine (S.meaning space.now) number bytes → at + length bytes ≤ length out.old }
-    ensures { Put (S.meaning space.now) number at result out.old out.new }
+    writer: &mut Writer,
+)
+    requires room_for_plan { HasRoom (C.meaning counted.now) (length work.old) (length plan.old) }
+    requires below { number < plans (C.meaning counted.now) }
+    requires room { (bytes : List ℕ) → IsLine (C.meaning counted.now) number bytes → HasSpace writer.old bytes }
+    ensures { Put (C.meaning counted.now) number writer.old writer.new }
 {
-    let len = write_plan(space, number, tallies, work, plan);
-    put_line(number, &plan[..len], out, at)
+    let len = write_plan(counted, number, work, plan);
+    writer.line(number, &plan[..len]);
 }
 
 /// How long the lines of all the numbers are: in 128 bits, which they do not outgrow.
-fn measure_lines<S: Space>(
-    space: &S,
+#[tactic(auto, using(crate::proofs::Reports::each_below))]
+fn measure_lines<C: Counted>(
+    counted: &C,
     numbers: &[u64],
-    tallies: &[Tally],
     work: &mut [Due],
     plan: &mut [Node],
 ) -> u128
-    requires prepared { Prepared (S.meaning space.now) tallies.now (length work.old) (length plan.old) }
-    requires below { any_past (plans (S.meaning space.now)) numbers.now ≡ false }
-    ensures { (bytes : List ℕ) → AreLines (S.meaning space.now) numbers.now bytes → result ≡ length bytes }
+    requires room_for_plan { HasRoom (C.meaning counted.now) (length work.old) (length plan.old) }
+    requires below { any_past (plans (C.meaning counted.now)) numbers.now ≡ false }
+    ensures { (bytes : List ℕ) → AreLines (C.meaning counted.now) numbers.now bytes → result ≡ length bytes }
 {
     let mut total: u128 = 0;
     for number in numbers {
-        total += measure_line(space, *number, tallies, work, plan);
+        total += measure_line(counted, *number, work, plan);
     }
     total
 }
 
-/// Writes the lines of all the numbers from byte 0 on.
-fn write_lines<S: Space>(
-    space: &S,
+/// Writes the lines of all the numbers.
+#[tactic(auto, using(crate::proofs::Reports::each_below))]
+fn write_lines<C: Counted>(
+    counted: &C,
     numbers: &[u64],
-    tallies: &[Tally],
     work: &mut [Due],
     plan: &mut [Node],
-    out: &mut [u8],
+    writer: &mut Writer,
 )
-    requires prepared { Prepared (S.meaning space.now) tallies.now (length work.old) (length plan.old) }
-    requires below { any_past (plans (S.meaning space.now)) numbers.now ≡ false }
-    requires room { (bytes : List ℕ) → AreLines (S.meaning space.now) numbers.now bytes → length bytes ≤ length out.old }
-    ensures { (bytes : List ℕ) → AreLines (S.meaning space.now) numbers.now bytes → out.new ≡ laid 0 bytes out.old }
+    requires room_for_plan { HasRoom (C.meaning counted.now) (length work.old) (length plan.old) }
+    requires below { any_past (plans (C.meaning counted.now)) numbers.now ≡ false }
+    requires room { (bytes : List ℕ) → AreLines (C.meaning counted.now) numbers.now bytes → HasSpace writer.old bytes }
+    ensures { (bytes : List ℕ) → AreLines (C.meaning counted.now) numbers.now bytes → Writes writer.old writer.new bytes }
 {
-    let mut at: usize = 0;
     for number in numbers {
-        at = write_line(space, *number, tallies, work, plan, out, at);
+        write_line(counted, *number, work, plan, writer);
     }
 }
 
@@ -125,11 +118,13 @@ pub fn report<S: Space>(
     if any_past_limit(numbers, plans) {
         return Err(Refusal::NoSuchPlan);
     }
-    let len = measure_lines(space, numbers, tallies, work, plan);
+    let counted = Tallied { space, tallies };
+    let len = measure_lines(&counted, numbers, work, plan);
     if len > text.len() as u128 {
         return Err(Refusal::TextShort);
     }
-    write_lines(space, numbers, tallies, work, plan, text);
+    let mut writer = Writer::new(text);
+    write_lines(&counted, numbers, work, plan, &mut writer);
     Ok(len as usize)
 }
 

@@ -1,23 +1,41 @@
-//! The draw.
+//! The draw, from a space with a tally buffer or a prepared one.
+//! A call for each, since only the plain one is lent a tally buffer and owes what it leaves there.
 
 ghost use Rattle.std.specs.Prelude.{◌≡◌, ◌<◌, ◌≤◌, length, take, IfOk, OnOk, ◌≢◌};
 ghost use Rattle.numbering.specs.Numbers.{Numbers};
 ghost use Rattle.numbering.specs.Refusals.{after_tally, largest, plans as plans_of};
 ghost use Rattle.numbering.specs.Standing.{Standing};
+ghost use Rattle.prepared.specs.Prepares.{table};
 ghost use Rattle.campaigns.specs.Calls.{counting, Drew, Next, of_pending, of_ready, passed};
 ghost use Rattle.campaigns.specs.Counting.{one_drawn};
 ghost use Rattle.campaigns.specs.Promises.{EveryHistory};
-ghost use Rattle.campaigns.specs.Refusals.{draw_refusal, lent_of};
+ghost use Rattle.campaigns.specs.Refusals.{draw_checks, draw_refusal, first_reason, lent_of};
 
 use crate::campaign::{Drawn, NotDrawn, Pending, Ready};
-use crate::counts::Counts;
 use crate::refusal::CampaignRefusal;
 use crate::writing::write_listing;
+use numbering::counted::Counted;
 use numbering::due::Due;
 use numbering::node::Node;
 use numbering::ready::ready_to_write;
+use numbering::tallied::Tallied;
 use numbering::tally::Tally;
+use prepared::prepared::Prepared;
 use spaces::space::Space;
+
+/// The checks of a campaign of n plans, of which `drawn` are drawn, before it draws from a space of `plans` plans.
+fn drawable(plans: u64, n: u64, drawn: u64) -> Result<(), CampaignRefusal>
+    ensures answer { result ≡ passed (first_reason (draw_checks plans n drawn)) }
+    ensures left { OnOk result ((plans ≡ n) × (drawn ≢ n)) }
+{
+    if plans != n {
+        Err(CampaignRefusal::OtherSpace)
+    } else if drawn == n {
+        Err(CampaignRefusal::AllDrawn)
+    } else {
+        Ok(())
+    }
+}
 
 /// The checks of a draw by a campaign of n plans, of which `drawn` are drawn. Past them the tallies stand.
 fn may_draw<S: Space>(
@@ -32,23 +50,28 @@ fn may_draw<S: Space>(
     ensures tallies { tallies.new ≡ after_tally (S.meaning space.now) tallies.old }
     ensures standing { OnOk result (Standing (S.meaning space.now) tallies.new × (largest (S.meaning space.now) ≤ work) × (largest (S.meaning space.now) ≤ plan) × (plans_of (S.meaning space.now) ≡ n) × (drawn ≢ n)) }
 {
-    match ready_to_write(space, tallies, work, plan) {
-        Ok((plans, _)) => {
-            if plans != n {
-                Err(CampaignRefusal::OtherSpace)
-            } else if drawn == n {
-                Err(CampaignRefusal::AllDrawn)
-            } else {
-                Ok(())
-            }
-        }
-        Err(refusal) => Err(CampaignRefusal::Call(refusal)),
-    }
+    let (plans, _) = ready_to_write(space, tallies, work, plan)?;
+    drawable(plans, n, drawn)
+}
+
+/// The same of a draw from a prepared space.
+fn may_draw_prepared(
+    space: &Prepared,
+    n: u64,
+    drawn: u64,
+    work: usize,
+    plan: usize,
+) -> Result<(), CampaignRefusal>
+    ensures answer { result ≡ passed (draw_refusal (table space.now) (lent_of (table space.now).goals work plan) n drawn) }
+    ensures room { OnOk result ((largest (table space.now) ≤ work) × (largest (table space.now) ≤ plan) × (plans_of (table space.now) ≡ n) × (drawn ≢ n)) }
+{
+    let (plans, _) = space.ready_to_write(work, plan)?;
+    drawable(plans, n, drawn)
 }
 
 impl Ready {
     /// The campaign once its next plan is drawn.
-    pub(crate) fn advance(self) -> Pending
+    fn advance(self) -> Pending
         requires { self.counts.drawn < self.n }
         ensures numbers { of_pending result ≡ counting (of_ready self) (one_drawn self.counts) }
         ensures number { result.number ≡ self.next }
@@ -59,38 +82,29 @@ impl Ready {
             step,
             baseline,
             next,
-            counts,
+            mut counts,
         } = self;
+        counts.drawn += 1;
         Pending {
             n,
             start,
             step,
             baseline,
             number: next,
-            counts: Counts {
-                drawn: counts.drawn + 1,
-                ..counts
-            },
+            counts,
         }
     }
 
-    /// Draws the next plan, where the tallies stand, the buffers are long enough and a plan is left.
-    fn draw_next<S: Space>(
-        self,
-        space: &S,
-        tallies: &[Tally],
-        work: &mut [Due],
-        plan: &mut [Node],
-    ) -> Drawn
-        requires standing { Standing (S.meaning space.now) tallies.now }
-        requires work { largest (S.meaning space.now) ≤ length work.old }
-        requires plan { largest (S.meaning space.now) ≤ length plan.old }
-        requires plans { plans_of (S.meaning space.now) ≡ self.n }
+    /// Draws the next plan, where the buffers are long enough and a plan is left.
+    fn draw_next<C: Counted>(self, counted: &C, work: &mut [Due], plan: &mut [Node]) -> Drawn
+        requires work { largest (C.Space.meaning counted.now) ≤ length work.old }
+        requires plan { largest (C.Space.meaning counted.now) ≤ length plan.old }
+        requires plans { plans_of (C.Space.meaning counted.now) ≡ self.n }
         requires left { self.counts.drawn ≢ self.n }
-        ensures { Next (S.meaning space.now) self plan.old plan.new result }
+        ensures { Next (C.Space.meaning counted.now) self plan.old plan.new result }
     {
         let number = self.next;
-        let len = write_listing(space, number, tallies, work, plan);
+        let len = write_listing(counted, number, work, plan);
         Drawn {
             pending: self.advance(),
             number,
@@ -114,15 +128,28 @@ impl Ready {
         ensures drawn { IfOk result (λ d. Numbers (S.meaning space.now) (take d.len plan.new) d.number) }
         ensures histories { EveryHistory }
     {
-        match may_draw(
-            space,
-            self.n,
-            self.counts.drawn,
-            tallies,
-            work.len(),
-            plan.len(),
-        ) {
-            Ok(()) => Ok(self.draw_next(space, tallies, work, plan)),
+        let drawn = self.counts.drawn;
+        match may_draw(space, self.n, drawn, tallies, work.len(), plan.len()) {
+            Ok(()) => Ok(self.draw_next(&Tallied { space, tallies }, work, plan)),
+            Err(why) => Err(NotDrawn { ready: self, why }),
+        }
+    }
+
+    /// Draws the next plan from a prepared space: its list goes into the first entries of `plan`.
+    ///
+    /// It answers as `draw` does with a tally buffer that is just long enough. `work` may hold anything afterwards.
+    pub fn draw_prepared(
+        self,
+        space: &Prepared,
+        work: &mut [Due],
+        plan: &mut [Node],
+    ) -> Result<Drawn, NotDrawn>
+        ensures answer { Drew (table space.now) (lent_of (table space.now).goals (length work.old) (length plan.old)) self plan.old plan.new result }
+        ensures drawn { IfOk result (λ d. Numbers (table space.now) (take d.len plan.new) d.number) }
+        ensures histories { EveryHistory }
+    {
+        match may_draw_prepared(space, self.n, self.counts.drawn, work.len(), plan.len()) {
+            Ok(()) => Ok(self.draw_next(space, work, plan)),
             Err(why) => Err(NotDrawn { ready: self, why }),
         }
     }

@@ -57,10 +57,8 @@ impl Pending {
     pub fn skip(self) -> Ready
         ensures { Skipped self result }
     {
-        let counts = self.counts;
-        self.settle(Counts {
-            skipped: counts.skipped + 1,
-            ..counts
-        })
+        let mut counts = self.counts;
+        counts.skipped += 1;
+        self.settle(counts)
     }
 }

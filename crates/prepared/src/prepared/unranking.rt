@@ -7,12 +7,10 @@ ghost use Rattle.numbering.specs.Refusals.{answered, count_checks, first_of, lar
 ghost use Rattle.prepared.specs.Prepares.{table};
 
 use crate::prepared::Prepared;
-use crate::prepared::lookup::Search;
 use numbering::due::Due;
-use numbering::lookup::write_by;
 use numbering::node::Node;
 use numbering::refusal::Refusal;
-use spaces::space::Space;
+use numbering::writing::write_plan;
 
 impl Prepared {
     /// The number of plans and the size of the largest, where the buffers are long enough to write plans.
@@ -20,10 +18,7 @@ impl Prepared {
         ensures answer { result ≡ answered (first_of (write_checks (table self.now) (table self.now).goals work plan)) (plans (table self.now), largest (table self.now)) }
         ensures room { OnOk result ((largest (table self.now) ≤ work) × (largest (table self.now) ≤ plan)) }
     {
-        let (plans, size) = self.count();
-        if work < size as usize {
-            return Err(Refusal::WorkShort);
-        }
+        let (plans, size) = self.ready_to_rank(work)?;
         if plan < size as usize {
             return Err(Refusal::PlanShort);
         }
@@ -34,6 +29,7 @@ impl Prepared {
     ///
     /// It answers as the plain call does with a tally buffer that is just long enough. Refused, the call leaves `plan` as it
     /// was. `work` may hold anything afterwards.
+    #[tactic(auto, using(crate::proofs::Held::counted_of, crate::proofs::Held::numbering_of))]
     pub fn unrank(&self, number: u64, work: &mut [Due], plan: &mut [Node]) -> Result<usize, Refusal>
         ensures answer { Unranked (table self.now) (first_of (unrank_checks (table self.now) number (table self.now).goals (length work.old) (length plan.old))) number result plan.old plan.new }
         ensures only { UnrankedOnly (table self.now) (first_of (unrank_checks (table self.now) number (table self.now).goals (length work.old) (length plan.old))) number result plan.old plan.new }
@@ -44,6 +40,6 @@ impl Prepared {
         if number >= plans {
             return Err(Refusal::NoSuchPlan);
         }
-        Ok(write_by(&Search, self, number, self.tallies(), work, plan))
+        Ok(write_plan(self, number, work, plan))
     }
 }

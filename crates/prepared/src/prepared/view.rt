@@ -1,29 +1,33 @@
 //! The prepared space as a space.
 
 ghost use Rattle.prepared.specs.Prepares.{table};
-ghost use Rattle.prepared.specs.Sliced.{lawful_held};
 
 use crate::prepared::Prepared;
 use spaces::space::{Alternative, Space};
+use std::alloc::{AllocError, Global};
 
 impl Space for Prepared {
     ghost meaning = { table };
 
-    ghost lawful = { λ s. lawful_held _ s.listed.lawful };
+    ghost lawful = { λ p. p.table.lawful };
 
     fn goals(&self) -> u16 {
-        self.listed.goals()
+        self.table.goals()
     }
 
     fn root(&self) -> u16 {
-        self.listed.root()
+        self.table.root()
     }
 
     fn width(&self, goal: u16) -> u32 {
-        self.listed.width(goal)
+        self.table.width(goal)
     }
 
     fn alternative(&self, goal: u16, index: u32) -> Option<Alternative> {
-        self.listed.alternative(goal, index)
+        self.table.alternative(goal, index)
+    }
+
+    fn list(&self, goal: u16, heap: Global) -> Result<Vec<Alternative>, AllocError> {
+        self.table.list(goal, heap)
     }
 }

@@ -4,7 +4,5 @@ use Rattle.engines.specs.Members.{has}
 use Rattle.engines.proofs.Members.{only_of}
 use Rattle.engines.proofs.sets.only.Goals as goal
 
-pub returns : goal.returns
-returns c =
-    let shifted = one_shl c.args.relation 64 c.requires in
-    record { value = shifted; members = λ q. ap (has q) shifted ∙ only_of c.args.relation q }
+pub returns-clause-members : goal.returns-clause-members
+returns-clause-members c = λ q. ap (has q) (one_shl c.args.relation 64 c.requires) ∙ only_of c.args.relation q

@@ -1,73 +1,71 @@
-use Rattle.std.proofs.Common.{◌≡◌, length, get_or, drop, vec_items, sym, ap, ◌∙◌, subst, inr, arith}
+use Rattle.std.proofs.Common.{◌≡◌, ℕ, ◌<◌, true, ltb, List, [], length, get_or, sym, refl, ap, ◌∙◌, inl, inr, arith, vec_items}
+use Rattle.std.proofs.lemmas.Bool.{ltb-false, ltb-true}
+use Rattle.std.proofs.lemmas.List.{length-map}
 use Rattle.std.proofs.lemmas.Result.{err_from_is_err_and}
+use Rattle.spaces.specs.Tables.{held}
 use Rattle.memos.specs.Reading.{read_alone}
 use Rattle.memos.specs.Rules.{among}
-use Rattle.memos.specs.Slices.{begins}
-use Rattle.memos.proofs.Looping.{loop_start, loop_end, loop_full, Turn, turn_falls, stops_by, loop_bad, Loop, turn_again, turn_first, turn_next, turn_within, out_of_memory}
-use Rattle.memos.proofs.load.read_records.Goals.{In_ok-record, After-repeated}
+use Rattle.memos.proofs.Looping.{Turn, loop_bad, loop_end, loop_full, turn_again, turn_falls, turn_first, turn_last, turn_next}
+use Rattle.memos.proofs.load.read_records.Goals.{After-repeated, In_ok-entry}
 use Rattle.memos.proofs.load.read_records.Goals as goal
 
-pub loop-at-init : goal.loop-at-init
-loop-at-init c = loop_start _ _ _ _ _ c.requires.from_in_bounds c.new-items.ensures.items c.new-starts.ensures.items
+-- the place of the next record is within the file
+more : (at : ℕ) (file now : List ℕ) → now ≡ file → true ≡ ltb at (length now) → at < length file
+more at file now e t = omega (arith, ltb-true at (length now) (sym t), ap length e)
 
 pub returns-then-count-ge-MOST_RECORDS : goal.returns-then-count-ge-MOST_RECORDS
 returns-then-count-ge-MOST_RECORDS c =
-    inr (loop_full c.args.file.now c.args.goals c.args.from (vec_items c.loop-at.items) (vec_items c.loop-at.starts) c.loop-at.at c.loop-at.invariant c.loop-at-test.true (omega (arith, c.len-count.ensures, c.if-count-ge-MOST_RECORDS.true, c.loop-at.items.ok.0)))
+    let l = c.loop-cursor in
+    inr (loop_full _ _ _ _ _ _ l.invariant.reading (more _ _ _ l.invariant.file c.loop-cursor-test.ensures) c.if-count-ge-MOST_RECORDS.true)
 
-pub returns-in_err-record : goal.returns-in_err-record
-returns-in_err-record c =
-    let low : length (vec_items c.loop-at.starts) ≡ c.len.result = sym (c.len.ensures ∙ c.loop-at.starts.ok.0) in
+pub returns-in_err-entry : goal.returns-in_err-entry
+returns-in_err-entry c =
+    let l = c.loop-cursor in
+    let low : c.len.result ≡ length (held l.lists.items) = omega (arith, length-map l.lists.items vec_items, l.lists.ok.0) in
+    let bad = (λ i. read_alone (sym l.invariant.file i) c.args.goals (sym low i) l.cursor.at) ∙ c.in_err-entry.ensures.alone in
     let p = err_from_is_err_and c.from_residual.result c.from_residual.ensures.1 in
-    stops_by _ _ p.0 c.in_err-record.field-0.0 _ _ p.1 p.2 (loop_bad c.args.file.now c.args.goals c.args.from (vec_items c.loop-at.items) (vec_items c.loop-at.starts) c.loop-at.at c.in_err-record.field-0.0 c.loop-at.invariant c.loop-at-test.true (omega (arith, c.len-count.ensures, c.if-count-ge-MOST_RECORDS.false, c.loop-at.items.ok.0)) (ap (λ n. read_alone c.args.file.now c.args.goals n c.loop-at.at) low ∙ sym c.in_err-record.ensures))
+    rw (p.1, p.2) (inr (loop_bad _ _ _ _ _ _ l.invariant.reading c.in_err-entry.field-0.0 (more _ _ _ l.invariant.file c.loop-cursor-test.ensures) c.if-count-ge-MOST_RECORDS.false bad))
 
-turn : (c : goal.In_ok-record) → Turn c.args.file.now c.args.goals c.args.from (vec_items c.loop-at.items) (vec_items c.loop-at.starts) c.loop-at.at (c.in_ok-record.«record», c.in_ok-record.next)
+turn : (c : goal.In_ok-entry) → Turn c.args.cursor.file.now c.args.goals c.args.cursor.at (held c.loop-cursor.lists.items) c.loop-cursor.count c.loop-cursor.cursor.at (c.in_ok-entry.entry, c.read_alone.new.cursor.at)
 turn c =
-    let low : length (vec_items c.loop-at.starts) ≡ c.len.result = sym (c.len.ensures ∙ c.loop-at.starts.ok.0) in
-    let count : c.len-count.result ≡ length (vec_items c.loop-at.items) = c.len-count.ensures ∙ c.loop-at.items.ok.0 in
+    let l = c.loop-cursor in
+    let low : c.len.result ≡ length (held l.lists.items) = omega (arith, length-map l.lists.items vec_items, l.lists.ok.0) in
     record {
-      loop = c.loop-at.invariant;
-      ahead = c.loop-at-test.true;
-      room = omega (arith, count, c.if-count-ge-MOST_RECORDS.false);
-      read = ap (λ n. read_alone c.args.file.now c.args.goals n c.loop-at.at) low ∙ sym c.in_ok-record.ensures;
+      loop = l.invariant.reading;
+      ahead = more _ _ _ l.invariant.file c.loop-cursor-test.ensures;
+      room = c.if-count-ge-MOST_RECORDS.false;
+      read = (λ i. read_alone (sym l.invariant.file i) c.args.goals (sym low i) l.cursor.at) ∙ c.in_ok-entry.ensures.alone;
     }
 
-pub repeated-requires : goal.repeated-requires
-repeated-requires c =
-    let count : c.len-count.result ≡ length (vec_items c.loop-at.items) = c.len-count.ensures ∙ c.loop-at.items.ok.0 in
-    let b : c.begin_of-begin.result ≡ begins (vec_items c.loop-at.items) (vec_items c.loop-at.starts) c.in_ok-record.«record».goal = c.begin_of-begin.ensures ∙ (λ i. get_or (c.as_slice.ensures.value i) (c.from.ensures i) (count i)) in
-    omega (arith, b, turn_within _ _ _ _ _ _ _ (turn (goal.at.repeated-requires c).In_ok-record), ap length c.as_slice-in-loop-at.ensures.value)
-
 -- what `repeated` was asked, said of the lists
-asked : (c : goal.After-repeated) → c.repeated.result ≡ among (drop (begins (vec_items c.loop-at.items) (vec_items c.loop-at.starts) c.in_ok-record.«record».goal) (vec_items c.loop-at.items)) c.in_ok-record.«record».alternative
-asked c =
-    let count : c.len-count.result ≡ length (vec_items c.loop-at.items) = c.len-count.ensures ∙ c.loop-at.items.ok.0 in
-    let b : c.begin_of-begin.result ≡ begins (vec_items c.loop-at.items) (vec_items c.loop-at.starts) c.in_ok-record.«record».goal = c.begin_of-begin.ensures ∙ (λ i. get_or (c.as_slice.ensures.value i) (c.from.ensures i) (count i)) in
-    c.repeated.ensures ∙ (λ i. among (drop (b i) (c.as_slice-in-loop-at.ensures.value i)) c.in_ok-record.«record».alternative)
+asked : (c : goal.After-repeated) → c.repeated.result ≡ among (get_or (held c.loop-cursor.lists.items) c.in_ok-entry.entry.goal []) c.in_ok-entry.entry.alternative
+asked c = c.repeated.ensures ∙ ap (λ vs. among (get_or (held vs) c.in_ok-entry.entry.goal []) c.in_ok-entry.entry.alternative) c.deref.ensures.value
 
 pub returns-then-repeated : goal.returns-then-repeated
 returns-then-repeated c =
-    inr (turn_again _ _ _ _ _ _ _ (turn (goal.at.returns-then-repeated c).In_ok-record) (sym (asked (goal.at.returns-then-repeated c).After-repeated) ∙ c.if-repeated.true))
+    inr (turn_again _ _ _ _ _ _ _ (turn (goal.at.returns-then-repeated c).In_ok-entry) (sym (asked (goal.at.returns-then-repeated c).After-repeated) ∙ c.if-repeated.true))
 
-pub returns-in_err-pad : goal.returns-in_err-pad
-returns-in_err-pad c =
-    let p = err_from_is_err_and c.from_residual-in_err-pad.result c.from_residual-in_err-pad.ensures.1 in
-    out_of_memory _ _ p.0 _ _ p.1 p.2 (turn_first _ _ _ _ _ _ _ (turn (goal.at.returns-in_err-pad c).In_ok-record) (sym (asked (goal.at.returns-in_err-pad c).After-repeated) ∙ c.if-repeated.false))
+pub store-requires : goal.store-requires
+store-requires c =
+    let lists = c.loop-cursor.lists in
+    omega (arith, turn_last _ _ _ _ _ _ _ (turn (goal.at.store-requires c).In_ok-entry), length-map lists.items vec_items, lists.ok.0)
 
-pub returns-in_err-push : goal.returns-in_err-push
-returns-in_err-push c =
-    let p = err_from_is_err_and c.from_residual-in_err-push.result c.from_residual-in_err-push.ensures.1 in
-    out_of_memory _ _ p.0 _ _ p.1 p.2 (turn_first _ _ _ _ _ _ _ (turn (goal.at.returns-in_err-push c).In_ok-record) (sym (asked (goal.at.returns-in_err-push c).After-repeated) ∙ c.if-repeated.false))
+pub returns-in_err-store : goal.returns-in_err-store
+returns-in_err-store c =
+    let p = err_from_is_err_and c.from_residual-in_err-store.result c.from_residual-in_err-store.ensures.1 in
+    rw (p.1, p.2) (inl (refl, turn_first _ _ _ _ _ _ _ (turn (goal.at.returns-in_err-store c).In_ok-entry) (sym (asked (goal.at.returns-in_err-store c).After-repeated) ∙ c.if-repeated.false)))
 
-pub loop-at-smaller : goal.loop-at-smaller
-loop-at-smaller c = turn_falls _ _ _ _ _ _ _ (turn (goal.at.loop-at-smaller c).In_ok-record)
+pub loop-cursor-smaller : goal.loop-cursor-smaller
+loop-cursor-smaller c =
+    omega (arith, turn_falls _ _ _ _ _ _ _ (turn (goal.at.loop-cursor-smaller c).In_ok-entry), ap length c.read_alone.ensures.file, ap length c.loop-cursor.invariant.file)
 
-pub loop-at-preserved : goal.loop-at-preserved
-loop-at-preserved c =
-    let count : c.len-count.result ≡ length (vec_items c.loop-at.items) = c.len-count.ensures ∙ c.loop-at.items.ok.0 in
-    let next = turn_next _ _ _ _ _ _ _ (turn (goal.at.loop-at-preserved c).In_ok-record) (sym (asked (goal.at.loop-at-preserved c).After-repeated) ∙ c.if-repeated.false) (vec_items c.pad.new.starts)
-    (λ k. subst (λ n. get_or (vec_items c.pad.new.starts) k n ≡ get_or (vec_items c.loop-at.starts) k n) count (c.in_ok-pad.ensures.0 k))
-    (λ h. omega (arith, c.in_ok-pad.ensures.1 (omega (arith, h, c.loop-at.starts.ok.0)), c.pad.new.starts.ok.0)) in
-    subst (λ its. Loop c.args.file.now c.args.goals c.args.from its (vec_items c.pad.new.starts) c.in_ok-record.next) (sym c.in_ok-push.ensures.items) next
+pub loop-cursor-preserved : goal.loop-cursor-preserved
+loop-cursor-preserved c = record {
+  file = c.in_ok-entry.ensures.file ∙ c.loop-cursor.invariant.file;
+  reading = turn_next _ _ _ _ _ _ _ (turn (goal.at.loop-cursor-preserved c).In_ok-entry) (sym (asked (goal.at.loop-cursor-preserved c).After-repeated) ∙ c.if-repeated.false) _ c.in_ok-store.ensures;
+}
 
 pub returns : goal.returns
-returns c = loop_end _ _ _ _ _ c.loop-at.at c.loop-at.invariant c.loop-at-test.false
+returns c =
+    let l = c.loop-cursor in
+    loop_end _ _ _ _ _ _ l.invariant.reading (omega (arith, ltb-false l.cursor.at (length l.cursor.file.now) (sym c.loop-cursor-test.ensures), ap length l.invariant.file))

@@ -6,5 +6,4 @@ pub loop-goal-preserved : goal.loop-goal-preserved
 loop-goal-preserved g c =
     let s = c.args.space.now in
     let within : c.loop-goal.goal < length c.args.tallies.now = omega arith in
-    fill_step (g.S.Space.meaning s) (g.met.S.Space.lawful s) c.loop-goal.goal c.args.tallies.now c.loop-goal.tallies
-    c.goal_tally-tally.result c.loop-goal.over within c.loop-goal.invariant.1 c.loop-goal.invariant.0 c.goal_tally-tally.ensures
+    fill_step (g.S.Space.meaning s) (g.met.S.Space.lawful s) c.loop-goal.goal c.from.result c.args.tallies.now c.loop-goal.tallies c.goal_tally.result within c.from.ensures c.loop-goal.invariant c.goal_tally.ensures

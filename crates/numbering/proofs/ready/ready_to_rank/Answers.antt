@@ -16,7 +16,7 @@ returns g c =
     let known = tables.ok_none (first_of checks) both read told in
     let size = ap (λ (p : ℕ × ℕ). p.1) known.1 in
     record {
-      answer = tables.answer_past checks (ltb c.args.work (largest m)) WorkShort both read told (le-ltb c.args.work (largest m) (omega (arith, size, c.if-work-size.false)));
+      answer = tables.answer_past checks (ltb c.args.work (largest m)) WorkShort both read told (le-ltb c.args.work (largest m) (omega (arith, size, c.from.ensures, c.if-work-from.false)));
       tallies = c.count.ensures.tallies;
-      standing = (tables.standing m ts c.count.new.tallies known.0 c.count.ensures.tallies c.count.auto.tallies, omega (arith, size, c.if-work-size.false));
+      standing = (tables.standing m ts c.count.new.tallies known.0 c.count.ensures.tallies c.count.auto.tallies, omega (arith, size, c.from.ensures, c.if-work-from.false));
     }

@@ -1,10 +1,9 @@
-use Rattle.numbering.specs.Dues.{stack}
-use Rattle.numbering.proofs.Stacks.{sizes}
+use Rattle.std.proofs.Common.{◌≤◌}
+use Rattle.numbering.specs.Refusals.{largest}
 use Rattle.numbering.proofs.Writes.{Writing}
 use Rattle.numbering.proofs.writing.write_plan.Given as goal
 
-abbrev pub invariant-loop-depth : goal.invariant-loop-depth
-invariant-loop-depth g l = Writing (g.S.Space.meaning l.space) l.number l.initial.plan l.plan l.work l.len l.depth
-
-abbrev pub decreases-loop-depth : goal.decreases-loop-depth
-decreases-loop-depth g l = sizes (g.S.Space.meaning l.space) (stack l.depth l.work)
+abbrev pub invariant-loop-len : goal.invariant-loop-len
+invariant-loop-len g l =
+    let m = g.C.Space.meaning l.counted in
+    Writing m l.number l.initial.plan l.plan l.stack.dues l.len × (largest m ≤ l.stack.room)

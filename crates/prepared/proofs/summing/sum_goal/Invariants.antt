@@ -1,6 +1,10 @@
-use Rattle.std.proofs.Common.{vec_items}
-use Rattle.prepared.proofs.Sums.{Adding}
+use Rattle.std.proofs.Common.{◌≡◌, map, vec_items}
+use Rattle.std.specs.List.{range_with_len}
+use Rattle.spaces.specs.TableSpaces.{table_space}
+use Rattle.prepared.specs.Sums.{sum_before}
 use Rattle.prepared.proofs.summing.sum_goal.Given as goal
 
-abbrev pub invariant-loop-index : goal.invariant-loop-index
-invariant-loop-index g l = Adding (g.S.Space.meaning l.space) l.goal l.index (vec_items l.initial.sums) (vec_items l.sums) l.before
+abbrev pub invariant-loop-alternative : goal.invariant-loop-alternative
+invariant-loop-alternative l =
+    let m = table_space l.counted.space.now in
+    (vec_items l.sums ≡ map (sum_before m l.goal) (range_with_len 0 l.alternative-index)) × (l.before ≡ sum_before m l.goal l.alternative-index)

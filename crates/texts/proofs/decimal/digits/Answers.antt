@@ -1,12 +1,9 @@
-use Rattle.std.proofs.Common.{arith}
-use Rattle.texts.proofs.Numerals.{size_step, size_one, size_most}
+use Rattle.std.proofs.Common.{sym, arith}
+use Rattle.texts.proofs.Numerals.{size_log, size_one}
 use Rattle.texts.proofs.decimal.digits.Goals as goal
 
-pub overflow_add-len : goal.overflow_add-len
-overflow_add-len c = omega (arith, size_most c.args.number (omega arith))
+pub returns-in-Some : goal.returns-in-Some
+returns-in-Some c = sym (size_log c.in-Some.log c.args.number c.in-Some.ensures.power_le c.in-Some.ensures.next_power_gt (omega arith))
 
-pub loop-left-preserved : goal.loop-left-preserved
-loop-left-preserved c = (omega (arith, size_step c.loop-left.left (omega arith) c.loop-left.invariant.1), omega arith)
-
-pub returns : goal.returns
-returns c = omega (arith, size_one c.loop-left.left (omega arith))
+pub returns-in-None : goal.returns-in-None
+returns-in-None c = sym (size_one c.args.number (omega (arith, c.in-None.ensures.none)))

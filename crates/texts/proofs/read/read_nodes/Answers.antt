@@ -1,53 +1,57 @@
-use Rattle.std.proofs.Common.{vec_items, sym, subst}
+use Rattle.std.proofs.Common.{◌≡◌, Some, None, Err, vec_items, subst, ◌∙◌, arith}
+use Rattle.std.proofs.lemmas.Grind.{common_steps}
 use Rattle.std.proofs.lemmas.Result.{err_from_is_err_and}
-use Rattle.texts.specs.Passing.{NotPassed, Passed, from_top}
-use Rattle.texts.proofs.Readings.{Reading, bytes_follow, no_marks, no_node, reading_end, reading_more, reading_new, shorter}
+use Rattle.texts.specs.declared.error.TextError.TheVariants.{NoNode}
+use Rattle.texts.specs.Parts.{LabelAt}
+use Rattle.texts.proofs.Readings.{bytes_follow, no_node, reading_end, reading_new, turn_missed, turn_read, turn_shorter}
 use Rattle.texts.proofs.read.read_nodes.Goals as goal
 
-pub loop-due-init : goal.loop-due-init
-loop-due-init c =
-    reading_new c.args.text.now (vec_items c.new-marks.result) (vec_items c.new-nodes.result) c.new-marks.ensures.items c.new-nodes.ensures.items
+pub loop-marks-init : goal.loop-marks-init
+loop-marks-init c =
+    record {
+      text = c.new-cursor.ensures.text;
+      read = rw c.new-cursor.ensures.at (reading_new c.args.text.now (vec_items c.new-marks.result) (vec_items c.new-nodes.result) c.new-marks.ensures.items c.new-nodes.ensures.items);
+    }
 
-pub returns-in_default : goal.returns-in_default
-returns-in_default c =
-    let s = from_top (vec_items c.loop-due.marks) in
-    let list = vec_items c.loop-due.nodes in
-    let before = subst (λ b. Reading c.args.text.now c.loop-due.at s b list) c.loop-due-test.true c.loop-due.invariant in
-    no_node c.args.text.now c.loop-due.at s list before c.in_default.ensures
+pub returns-in_err-node : goal.returns-in_err-node
+returns-in_err-node c =
+    let cursor = c.loop-marks.cursor in
+    let none : c.label.result ≡ None = grind (arith, common_steps) in
+    let told : c.from_residual.result ≡ Err (NoNode cursor.at) = grind (arith, common_steps) in
+    rw told
+    (no_node c.args.text.now cursor.at _ _ c.loop-marks.invariant.read (subst (λ x. LabelAt x cursor.at None) c.loop-marks.invariant.text (rw none at c.label.ensures.label)))
 
-pub returns-in_err-at : goal.returns-in_err-at
-returns-in_err-at c =
-    let s = from_top (vec_items c.loop-due.marks) in
-    let list = vec_items c.loop-due.nodes in
-    let before = subst (λ b. Reading c.args.text.now c.loop-due.at s b list) c.loop-due-test.true c.loop-due.invariant in
-    let missing = subst (λ k. NotPassed k s c.args.text.now c.in-Some.next c.in_err-at.field-0.0) c.arity.ensures c.in_err-at.ensures in
-    let p = err_from_is_err_and c.from_residual-in_err-at.result c.from_residual-in_err-at.ensures.1 in
-    rw (p.1, p.2) (no_marks c.args.text.now c.loop-due.at s list before c.in-Some.node c.in-Some.next c.in-Some.ensures c.in_err-at.field-0.0 missing)
+pub returns-in_err-pass_marks : goal.returns-in_err-pass_marks
+returns-in_err-pass_marks c =
+    let some : c.label.result ≡ Some c.in_ok-node.node = grind (arith, common_steps) in
+    let p = err_from_is_err_and c.from_residual-in_err-pass_marks.result c.from_residual-in_err-pass_marks.ensures.1 in
+    rw (p.1, p.2)
+    (turn_missed c.args.text.now _ _ _ _ _ _ c.loop-marks.invariant.read c.in_ok-node.node _ (rw some at c.label.ensures.label)
+    c.loop-marks.invariant.text c.label.ensures.text c.arity.ensures c.in_err-pass_marks.field-0.0 c.in_err-pass_marks.ensures.marks)
 
-pub loop-due-smaller : goal.loop-due-smaller
-loop-due-smaller c =
-    shorter c.args.text.now c.loop-due.at c.in-Some.next c.in_ok-at.field-0-0 _ _ _ _ c.in-Some.node c.in-Some.ensures c.in_ok-at.ensures
+pub loop-marks-smaller : goal.loop-marks-smaller
+loop-marks-smaller c =
+    let some : c.label.result ≡ Some c.in_ok-node.node = grind (arith, common_steps) in
+    turn_shorter c.args.text.now _ _ _ _ _ _ c.loop-marks.invariant.read c.in_ok-node.node _ (rw some at c.label.ensures.label)
+    c.loop-marks.invariant.text c.label.ensures.text c.arity.ensures _ _ _ c.in_ok-pass_marks.ensures.marks
 
-pub loop-due-preserved : goal.loop-due-preserved
-loop-due-preserved c =
-    let s = from_top (vec_items c.loop-due.marks) in
-    let list = vec_items c.loop-due.nodes in
-    let before = subst (λ b. Reading c.args.text.now c.loop-due.at s b list) c.loop-due-test.true c.loop-due.invariant in
-    let u = from_top (vec_items c.pass_marks.new.marks) in
-    let more = subst (λ k. Passed k s u c.args.text.now c.in-Some.next c.in_ok-at.field-0-0 c.in_ok-at.field-0-1) c.arity.ensures c.in_ok-at.ensures in
-    subst (Reading c.args.text.now c.in_ok-at.field-0-0 u c.in_ok-at.field-0-1) (sym c.in_ok-push.ensures.items)
-    (reading_more c.args.text.now c.loop-due.at s list before c.in-Some.node c.in-Some.next c.in-Some.ensures c.in_ok-at.field-0-0 u c.in_ok-at.field-0-1 more)
+pub loop-marks-preserved : goal.loop-marks-preserved
+loop-marks-preserved c =
+    let some : c.label.result ≡ Some c.in_ok-node.node = grind (arith, common_steps) in
+    record {
+      text = c.pass_marks.ensures.text ∙ c.label.ensures.text ∙ c.loop-marks.invariant.text;
+      read = turn_read c.args.text.now _ _ _ _ _ _ c.loop-marks.invariant.read c.in_ok-node.node _ (rw some at c.label.ensures.label)
+          c.loop-marks.invariant.text c.label.ensures.text c.arity.ensures _ _ _ _ (rw c.in-Node.is at c.in_ok-pass_marks.ensures.marks) c.in_ok-push.ensures.items;
+    }
 
-pub returns-then-at-text : goal.returns-then-at-text
-returns-then-at-text c =
-    let s = from_top (vec_items c.loop-due.marks) in
-    let list = vec_items c.loop-due.nodes in
-    let before = subst (λ b. Reading c.args.text.now c.loop-due.at s b list) c.loop-due-test.false c.loop-due.invariant in
-    bytes_follow c.args.text.now c.loop-due.at s list before c.if-at-text.true
+pub returns-then-cursor-text : goal.returns-then-cursor-text
+returns-then-cursor-text c =
+    let some : c.label.result ≡ Some c.in_ok-node.node = grind (arith, common_steps) in
+    bytes_follow c.args.text.now _ _ _ (turn_read c.args.text.now _ _ _ _ _ _ c.loop-marks.invariant.read c.in_ok-node.node _ (rw some at c.label.ensures.label)
+    c.loop-marks.invariant.text c.label.ensures.text c.arity.ensures _ _ _ _ (rw c.in-End.is at c.in_ok-pass_marks.ensures.marks) c.in_ok-push.ensures.items) c.if-cursor-text.true
 
 pub returns : goal.returns
 returns c =
-    let s = from_top (vec_items c.loop-due.marks) in
-    let list = vec_items c.loop-due.nodes in
-    let before = subst (λ b. Reading c.args.text.now c.loop-due.at s b list) c.loop-due-test.false c.loop-due.invariant in
-    reading_end c.args.text.now c.loop-due.at s list before c.if-at-text.false
+    let some : c.label.result ≡ Some c.in_ok-node.node = grind (arith, common_steps) in
+    reading_end c.args.text.now _ _ _ (turn_read c.args.text.now _ _ _ _ _ _ c.loop-marks.invariant.read c.in_ok-node.node _ (rw some at c.label.ensures.label)
+    c.loop-marks.invariant.text c.label.ensures.text c.arity.ensures _ _ _ _ (rw c.in-End.is at c.in_ok-pass_marks.ensures.marks) c.in_ok-push.ensures.items) c.if-cursor-text.false

@@ -1,4 +1,4 @@
-use Rattle.std.proofs.Common.{length, Err, refl, ap, ◌∙◌, arith}
+use Rattle.std.proofs.Common.{length, Err, refl, ap, ◌∙◌, arith, rules}
 use Rattle.std.proofs.lemmas.Result.{err_from_is_err_and}
 use Rattle.numbering.specs.declared.refusal.Refusal.TheVariants.{NoSuchPlan}
 use Rattle.numbering.specs.Refusals.{first_of}
@@ -36,7 +36,7 @@ measure_lines-len-requires g c =
     let xs = c.args.numbers.now in
     let ready = c.in_ok-plans.ensures.standing in
     record {
-      prepared = record { standing = ready.0; work_room = ready.1; plan_room = ready.2 };
+      room_for_plan = record { work_room = ready.1; plan_room = ready.2 };
       below = answers.none_past m xs _ _ _ c.in_ok-plans.plans c.in_ok-plans.field-0-1 c.in_ok-plans.ensures.answer c.if-any_past_limit.ensures;
     }
 
@@ -60,13 +60,9 @@ write_lines-requires g c =
     let xs = c.args.numbers.now in
     let ready = c.in_ok-plans.ensures.standing in
     record {
-      prepared = record {
-        standing = ready.0;
-        work_room = omega (arith, ready.1, c.measure_lines-len.auto.work);
-        plan_room = omega (arith, ready.2, c.measure_lines-len.auto.plan);
-      };
+      room_for_plan = record { work_room = omega (arith, ready.1, c.measure_lines-len.auto.work); plan_room = omega (arith, ready.2, c.measure_lines-len.auto.plan) };
       below = answers.none_past m xs _ _ _ c.in_ok-plans.plans c.in_ok-plans.field-0-1 c.in_ok-plans.ensures.answer c.if-any_past_limit.ensures;
-      room = λ bytes p. omega (arith, c.measure_lines-len.ensures bytes p, c.if-len-text.false);
+      room = λ bytes p. omega (arith, c.measure_lines-len.ensures bytes p, c.if-len-text.false, ap length c.new-writer.ensures.out);
     }
 
 pub returns : goal.returns
@@ -78,7 +74,7 @@ returns g c =
     let below = answers.none_past m xs _ _ _ c.in_ok-plans.plans c.in_ok-plans.field-0-1 told c.if-any_past_limit.ensures in
     record {
       answer = answers.reported_written m (g.met.S.Space.lawful s) _ xs (answers.report_past m xs _ _ _ c.in_ok-plans.plans c.in_ok-plans.field-0-1 told below) below
-          c.measure_lines-len.result c.args.text.now c.write_lines.new.out c.measure_lines-len.ensures c.if-len-text.false c.write_lines.ensures;
+          c.measure_lines-len.result c.args.text.now _ c.measure_lines-len.ensures c.if-len-text.false (λ bytes p. let done = c.write_lines.ensures bytes p in search rules);
       tallies = c.ready_to_write.ensures.tallies;
       plan = answers.may_touch m xs _ _ _ c.in_ok-plans.plans c.in_ok-plans.field-0-1 told _ _;
     }

@@ -1,33 +1,22 @@
-use Rattle.std.proofs.Common.{◌<◌, length, take, vec_items, sym, ap, ◌∙◌, arith, rules}
-use Rattle.spaces.proofs.Appends.{begins, listing_end, listing_more}
-use Rattle.spaces.specs.Places.{some_below}
-use Rattle.spaces.proofs.Seek.{seek_falls}
+use Rattle.std.proofs.Common.{◌≤◌, length, vec_items, sym, ap, ◌∙◌, arith}
+use Rattle.std.proofs.lemmas.List.{take_all}
+use Rattle.spaces.specs.Places.{none_past}
+use Rattle.spaces.proofs.Filling.{filled_more}
 use Rattle.spaces.proofs.space.Space.list.Goals as goal
+use Rattle.spaces.proofs.space.Space.list.Goals.{in-Some+in_ok-push, in_default}
 
-pub returns-in_err-push : goal.returns-in_err-push
-returns-in_err-push g c = record {
-  front =
-      ap (take (length (vec_items c.args.into.now))) c.in_err-push.ensures.items
-      ∙ begins (vec_items c.args.into.now) (vec_items c.loop-alternative.into) _ _ c.loop-alternative.invariant.longer c.loop-alternative.invariant.same;
-  whole = search rules;
-}
-
-pub overflow_add-at : goal.overflow_add-at
-overflow_add-at g c =
-    let s = c.args.self.now in
-    let xs = (g.Self.Space.meaning s).lists c.args.goal in
-    let w : c.loop-alternative.at < length xs = some_below xs c.loop-alternative.at c.in-Some.alternative (sym c.alternative.ensures ∙ c.in-Some.is) in
-    omega (arith, (g.met.Self.Space.lawful s).narrow c.args.goal)
-
-pub loop-alternative-smaller : goal.loop-alternative-smaller
-loop-alternative-smaller g c = seek_falls _ _ _ (sym c.alternative.ensures ∙ c.in-Some.is)
-
-pub loop-alternative-preserved : goal.loop-alternative-preserved
-loop-alternative-preserved g c =
-    listing_more _ _ _ _ _ _ c.loop-alternative.invariant (sym c.alternative.ensures ∙ c.in-Some.is) c.in_ok-push.ensures.items
+pub loop-index-preserved : goal.loop-index-preserved
+loop-index-preserved g c =
+    let xs = (g.Self.Space.meaning c.args.self.now).lists c.args.goal in
+    let i = c.loop-index.index in
+    elim c.match-alternative.branch [
+      | in-Some+in_ok-push w ↦ filled_more xs (vec_items c.loop-index.list) (vec_items c.match-alternative.list) i w.in-Some.alternative
+          c.loop-index.invariant (sym c.alternative.ensures ∙ w.in-Some.is) (ap vec_items w.list-is ∙ w.in_ok-push.ensures.items)
+      | in_default w ↦ absurd (omega (arith, none_past xs i (sym c.alternative.ensures ∙ w.in_default.is), c.width-index-end.ensures))
+    ]
 
 pub returns : goal.returns
-returns g c = record {
-  front = begins (vec_items c.args.into.now) (vec_items c.loop-alternative.into) _ _ c.loop-alternative.invariant.longer c.loop-alternative.invariant.same;
-  whole = listing_end _ _ _ _ c.loop-alternative.invariant (sym c.alternative.ensures ∙ c.in_default.is);
-}
+returns g c =
+    let xs = (g.Self.Space.meaning c.args.self.now).lists c.args.goal in
+    let short : length xs ≤ c.loop-index.index = omega (arith, c.width-index-end.ensures) in
+    c.loop-index.invariant ∙ take_all c.loop-index.index xs short

@@ -1,9 +1,5 @@
-use Rattle.std.proofs.Common.{◌-◌, length, vec_items}
-use Rattle.spaces.proofs.Appends.{Listing}
+use Rattle.std.proofs.Common.{◌≡◌, take, vec_items}
 use Rattle.spaces.proofs.space.Space.list.Given as goal
 
-abbrev pub invariant-loop-alternative : goal.invariant-loop-alternative
-invariant-loop-alternative g l = Listing ((g.Self.Space.meaning l.self).lists l.goal) (vec_items l.initial.into) (vec_items l.into) l.at
-
-abbrev pub decreases-loop-alternative : goal.decreases-loop-alternative
-decreases-loop-alternative g l = length ((g.Self.Space.meaning l.self).lists l.goal) - l.at
+abbrev pub invariant-loop-index : goal.invariant-loop-index
+invariant-loop-index g l = vec_items l.list ≡ take l.index ((g.Self.Space.meaning l.self).lists l.goal)

@@ -1,9 +1,0 @@
-use Rattle.std.proofs.Common.{◌-◌, length}
-use Rattle.spaces.proofs.Seek.{Counting}
-use Rattle.spaces.proofs.keep.kept_width.Given as goal
-
-abbrev pub invariant-loop-alternative : goal.invariant-loop-alternative
-invariant-loop-alternative g l = Counting (g.T.Test.picks l.test) ((g.S.Space.meaning l.below).lists l.goal) l.at l.width
-
-abbrev pub decreases-loop-alternative : goal.decreases-loop-alternative
-decreases-loop-alternative g l = length ((g.S.Space.meaning l.below).lists l.goal) - l.at
