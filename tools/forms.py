@@ -31,7 +31,7 @@ LINES = {
     '1': r'Result<[^;{]*, u8>|const [A-Z_]+: u8 =|[<( ]Option<u8>|Result<u8,|\((usize|u64), bool\)|(=> |return |Some\()0[;,)]$',
     '3': r'^\s*(while|loop)\b|^\s*for \w+ in .*\.\.|[+-]= 1;|= \w+\.saturating_add\(1\);',
     '4': r'^\s*(pub )?(pub\(crate\) )?fn (alike|same|equal|number|from_number|letter|from_letter|reason|is_sorted|too_large|required|put)\b'
-         r'|^impl.* From<|^impl.* TryFrom<|const (NO_[A-Z]+|NONE|SCAN|MARK): [A-Z]|(Tally|Due|Counts|Covered) \{ ?\w+: 0|^\s*relations: 0,|Err\((\w+)\) => (return )?Err\(\3\)',
+         r'|^impl.* From<|^impl.* TryFrom<|const (NO_[A-Z]+|NONE|SCAN|MARK): [A-Z]|(Tally|Due|Counts|Covered) \{ ?\w+: 0|^\s*relations: 0,|Err\((?P<e>\w+)\) => (return )?Err\((?P=e)\)',
     '6': r'\b(starts|sums): (&mut )?Vec<|\b(depth|len|at|top|end|moved): usize|\bat: usize',
     '7': r'^\s*match (layers|way|name|words\.wanted)\b',
 }

@@ -6,6 +6,7 @@ use numbering::counting::count;
 use numbering::refusal::Refusal;
 use numbering::tally::Tally;
 use spaces::space::Space;
+use spaces::table as tables;
 use std::alloc::Global;
 use std::process::Abort;
 use std::test::Fail;
@@ -92,7 +93,7 @@ pub fn same_count<S: Space>(
     Ok(true)
 }
 
-/// Both.
+/// Both, and the questions of a copy.
 pub fn agrees<S: Space>(
     rt: &impl Abort,
     heap: Global,
@@ -100,5 +101,6 @@ pub fn agrees<S: Space>(
     table: &Table,
 ) -> Result<bool, Fail> {
     same_space(rt, heap, space, table)?;
+    same_space(rt, heap, &tables::Table::copy(space, heap)?, table)?;
     same_count(rt, heap, space, table)
 }

@@ -1,5 +1,6 @@
 //! What a campaign over the rows engine should come to, worked out plan by plan.
 
+use crate::enumeration::children;
 use campaigns::counts::Counts;
 use numbering::node::Node;
 use spaces::kind::Kind;
@@ -28,7 +29,7 @@ fn node_rows(node: Node, left: u64, right: u64) -> Result<u64, u8> {
 fn plan_rows(heap: Global, plan: &[Node]) -> Result<Result<u64, u8>, AllocError> {
     let mut done: Vec<u64> = Vec::new(heap);
     for node in plan.iter().rev() {
-        let arity = node.alternative.kind.arity();
+        let arity = children(node.alternative.kind);
         let left = if arity >= 1 {
             done.pop().unwrap_or(0)
         } else {

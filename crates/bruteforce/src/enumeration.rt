@@ -9,7 +9,7 @@ use std::alloc::{AllocError, Global};
 /// More plans than this and the space is not enumerated.
 const MANY: usize = 3000;
 
-/// How many children an operator of a kind has.
+/// How many children an operator of a kind has, not asked of the code under test.
 pub fn children(kind: Kind) -> u8 {
     match kind {
         Kind::Scan | Kind::IndexScan => 0,

@@ -10,7 +10,7 @@ pub struct Table {
     pub lists: Vec<Vec<Alternative>>,
 }
 
-/// The alternatives of a goal: none past the last.
+/// The alternatives of a goal: none past the last. Apart from the code under test, as all of this table is.
 pub fn list_of(table: &Table, goal: u16) -> &[Alternative] {
     match table.lists.get(usize::from(goal)) {
         Some(list) => list,

@@ -1,5 +1,5 @@
 -- What the tables of refusals say of a quiet space.
-use Rattle.std.proofs.Common.{◌≡◌, ℕ, ◌<◌, ◌≤◌, Bool, true, false, cond, not, eqb, ltb, ◌⊎◌, [], ◌∷◌, Some, None, Ok, Err, Option, Result, sym, inl, inr, ⊎_elim, arith}
+use Rattle.std.proofs.Common.{◌≡◌, ℕ, ◌<◌, ◌≤◌, Bool, true, false, not, eqb, ltb, ◌⊎◌, [], ◌∷◌, Some, None, Ok, Option, Result, sym, inl, inr, ⊎_elim, arith}
 use Rattle.std.proofs.lemmas.Bool.{both_ways, cases_lt, eq-eqb, eqb-true, le-ltb, lt-ltb, ltb-true, ne_eqb}
 use Rattle.spaces.specs.Spaces.{Meaning}
 use Rattle.numbering.specs.declared.refusal.Refusal.{Refusal}
@@ -10,7 +10,7 @@ use Rattle.numbering.specs.Tallies.{most_nodes, over}
 use Rattle.campaigns.specs.declared.outcome.Outcome.{Outcome}
 use Rattle.campaigns.specs.declared.outcome.Outcome.TheVariants.{Differing}
 use Rattle.campaigns.specs.declared.refusal.CampaignRefusal.{CampaignRefusal}
-use Rattle.campaigns.specs.declared.refusal.CampaignRefusal.TheVariants.{AllDrawn, FindsShort, OtherSpace, ValuesShort}
+use Rattle.campaigns.specs.declared.refusal.CampaignRefusal.TheVariants.{AllDrawn, OtherSpace, ValuesShort}
 use Rattle.campaigns.specs.Calls.{ruled}
 use Rattle.campaigns.specs.Divisors.{Exactly}
 use Rattle.campaigns.specs.Promises.{Quiet, RunShort, Short}

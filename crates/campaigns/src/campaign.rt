@@ -2,6 +2,7 @@
 //!
 //! A campaign is ready, or pending while a drawn plan waits to be run or skipped. Neither state can be
 //! copied or let go: a pending one is settled, and a ready one draws again or is closed.
+//! Each is a type of plain numbers, so what both have, and what always holds of it, stands in both.
 
 ghost use Rattle.std.specs.Prelude.{◌≡◌, ◌+◌, ◌<◌, ◌≤◌};
 ghost use Rattle.campaigns.specs.Divisors.{Coprime};
@@ -57,7 +58,7 @@ pub struct Pending {
     ghost settled: { counts.drawn ≡ counts.agreed + counts.differing + counts.faulted + counts.skipped + 1 },
 }
 
-/// An accepted draw: the plan's number, and how many nodes of it stand in the plan buffer.
+/// An accepted draw: the plan's number, and how many nodes of it stand in the plan buffer, which is the caller's.
 pub struct Drawn {
     pub pending: Pending,
     pub number: u64,

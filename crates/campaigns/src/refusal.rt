@@ -39,7 +39,7 @@ impl From<Refusal> for CampaignRefusal {
 }
 
 impl CampaignRefusal {
-    /// The refusal's number. A method and no `From`, as at the refusals of which some have none.
+    /// The refusal's number. A method, as at the refusals of which some have none, so that all are asked alike.
     pub fn number(self) -> u8
         ensures { result ≡ number_of self }
     {

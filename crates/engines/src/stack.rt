@@ -2,7 +2,8 @@
 
 ghost use Rattle.std.specs.Prelude.{◌≡◌, ◌+◌, ◌-◌, ◌<◌, ◌≤◌, [], ◌∷◌, drop, length, take, MatchOption};
 
-/// Results at the back of a lent buffer, from `top` on: it grows down.
+/// Results at the back of a lent buffer, from `top` on. Unlike numbering's stack it grows down, so that a node's children lie
+/// left first in one slice.
 #[derive(Drop)]
 pub(crate) struct Stack<'a, V> {
     values: &'a mut [V],

@@ -14,24 +14,31 @@ use std::alloc::Global;
 /// The mask of all seven kinds.
 const EVERY_KIND: u8 = 0b111_1111;
 
-fn count_rounds(heap: Global, relations: u64, rounds: u64) -> Option<u64> {
-    let space = Bushy::new(relations, Kind::HashJoin).ok()?;
-    let mut tallies = vec![in heap; Tally::default(); usize::from(space.goals())].ok()?;
+/// The sum of what the work gives, done so many times.
+fn sum_rounds<F: FnMut() -> Option<u64>>(rounds: u64, mut work: F) -> Option<u64>
+    requires { F.IsAlwaysCallable work }
+{
     let mut sum: u64 = 0;
     for _ in 0..rounds {
-        let (plans, _) = count(&space, &mut tallies).ok()?;
-        sum = sum.wrapping_add(plans);
+        sum = sum.wrapping_add(work()?);
     }
     Some(sum)
 }
 
+fn count_rounds(heap: Global, relations: u64, rounds: u64) -> Option<u64> {
+    let space = Bushy::new(relations, Kind::HashJoin).ok()?;
+    let mut tallies = vec![in heap; Tally::default(); usize::from(space.goals())].ok()?;
+    sum_rounds(rounds, || {
+        let (plans, _) = count(&space, &mut tallies).ok()?;
+        Some(plans)
+    })
+}
+
 fn prepare_rounds<S: Space>(heap: Global, space: &S, rounds: u64) -> Option<u64> {
-    let mut sum: u64 = 0;
-    for _ in 0..rounds {
+    sum_rounds(rounds, || {
         let (plans, _) = prepare(space, heap).ok()?.count();
-        sum = sum.wrapping_add(plans);
-    }
-    Some(sum)
+        Some(plans)
+    })
 }
 
 /// Prepares the bushy space with merge joins, bare or under layers, which C names by their number.

@@ -7,7 +7,8 @@ ghost use Rattle.memos.specs.Rules.{end_from, fields_at, word_at};
 
 use crate::fields::Fields;
 
-/// A file, and the place up to which it has been read.
+/// A file, and the place up to which it has been read. Texts have one of their own: that passes bytes that are due, this one
+/// numbers, and common is only the field and `byte`.
 #[derive(Drop)]
 pub struct Cursor<'f> {
     file: &'f [u8],

@@ -40,6 +40,7 @@ impl Memo {
     }
 }
 
+/// Question by question, since there is no other way to hand a trait on to a field.
 impl Space for Memo {
     ghost use Rattle.memos.specs.Views.{view};
 

@@ -1,5 +1,6 @@
-//! What is due at the children's places of an alternative: a goal, or nothing. A function for each side, since
-//! a side as an argument would put a number in place of a name.
+//! What is due at the children's places of an alternative: a goal, or nothing.
+//!
+//! A function for each side: one for both would match on a side that each caller has to name.
 
 ghost use Rattle.std.specs.Prelude.{◌≡◌};
 ghost use Rattle.numbering.specs.Plans.{left_due, right_due};

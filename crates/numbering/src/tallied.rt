@@ -15,6 +15,7 @@ pub struct Tallied<'a, S: Space> {
     pub ghost standing: { Standing (S.meaning space.now) tallies.now },
 }
 
+/// Question by question, since there is no other way to hand a trait on to a field.
 impl<S: Space> Space for Tallied<'_, S> {
     ghost meaning = { λ s. S.Space.meaning s.space.now };
 

@@ -62,7 +62,7 @@ struct Options<'a> {
 }
 
 impl<'a> Options<'a> {
-    /// Takes one option.
+    /// Takes one option, by the name that a user types.
     fn set(&mut self, name: &str, value: &'a str) -> Result<(), Failure> {
         match name {
             "--engine" => self.engine = Some(value.try_into()?),

@@ -26,15 +26,13 @@ struct Ended {
 }
 
 /// The end of a campaign at a refused call: that every plan is drawn is no failure.
-impl From<Stopped> for Ended {
-    fn from(stopped: Stopped) -> Ended {
-        let (counts, why) = stopped.close();
-        let why = match why {
-            CampaignRefusal::AllDrawn => None,
-            _ => Some(why),
-        };
-        Ended { counts, why }
-    }
+fn end_of(stopped: Stopped) -> Ended {
+    let (counts, why) = stopped.close();
+    let why = match why {
+        CampaignRefusal::AllDrawn => None,
+        _ => Some(why),
+    };
+    Ended { counts, why }
 }
 
 /// Draws and runs in parts, with a word on standard error after each.
@@ -66,7 +64,7 @@ fn conduct_in_parts<S: Space, E: Engine>(
             finds,
         ) {
             Ok(next) => state = next,
-            Err(stopped) => return stopped.into(),
+            Err(stopped) => return end_of(stopped),
         }
         left -= now;
         if draws > LONG {

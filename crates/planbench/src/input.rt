@@ -37,15 +37,9 @@ fn read_into<T: Sink>(
     let read = if name == "-" {
         into.fill(rt.stdin().take(most))
     } else {
-        match fs::open(rt, name) {
-            Ok(file) => into.fill(file.take(most)),
-            Err(e) => Err(e),
-        }
+        fs::open(rt, name).and_then(|file| into.fill(file.take(most)))
     };
-    match read {
-        Ok(_) => Ok(()),
-        Err(e) => Err(Failure::Unread(e)),
-    }
+    read.map(|_| ()).map_err(|e| Failure::Unread(e))
 }
 
 /// The bytes of a file, or of standard input where its name is `-`.

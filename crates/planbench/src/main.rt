@@ -51,6 +51,7 @@ An ENGINE is cover, or rows: and the row counts of relations 0, 1, .. with comma
 fn run(rt: &HostRuntime) -> Result<(), Failure> {
     let args: Vec<String> = env::args(rt)?.collect(rt.alloc())?;
     let mut words = Words::new(&args);
+    // a `match` over what a user types: the commands take the words as they come
     match words.wanted("a command is wanted")? {
         "count" => run_count(rt, &mut words),
         "plan" => run_plan(rt, &mut words),

@@ -19,8 +19,6 @@ pub use crate::prepared::making::prepare;
 
 /// A space with all that calls on its plans need: its alternatives, the tallies of its goals, and for each goal the counts
 /// of its alternatives, added up: at each place those of the alternatives before it.
-///
-/// The sums lie beside the table and not in it, since they come of its tallies, which are counted over the table as a space.
 #[derive(Drop)]
 pub struct Prepared {
     table: Table,

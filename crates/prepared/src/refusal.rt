@@ -38,7 +38,7 @@ impl From<Refusal> for PrepareRefusal {
     }
 }
 
-// By hand, since what a derive writes has no contract; and twice, since `vec!` and `push` fail with errors of their own.
+// Twice, since `vec!` and `push` fail with errors of their own.
 impl From<AllocError> for PrepareRefusal {
     ghost from_gives = { λ _ r. r ≡ NoMemory };
 

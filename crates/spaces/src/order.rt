@@ -20,10 +20,7 @@ impl Order {
     pub fn is_sorted(self) -> bool
         ensures { result ≡ asks self }
     {
-        match self {
-            Order::Any => false,
-            Order::Sorted => true,
-        }
+        self == Order::Sorted
     }
 }
 

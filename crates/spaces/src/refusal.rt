@@ -15,7 +15,7 @@ pub enum MakeRefusal {
 }
 
 impl MakeRefusal {
-    /// The refusal's number. A method and no `From`, as at the refusals of which some have none.
+    /// The refusal's number. A method, as at the refusals of which some have none, so that all are asked alike.
     pub fn number(self) -> u8
         ensures { result ≡ number_of self }
     {

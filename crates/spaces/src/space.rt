@@ -47,7 +47,7 @@ pub trait Space {
         ensures { IfOk result (λ list. list.items ≡ (meaning self.now).lists goal) }
     {
         let mut list = Vec::new(heap);
-        // not over `alternatives`: the proof of a provided method that hands `Self` on did not close
+        // not over `alternatives`, since `Self` may have no size here
         for index in 0..self.width(goal) {
             if let Some(alternative) = self.alternative(goal, index) {
                 list.push(alternative)?;

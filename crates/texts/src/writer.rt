@@ -58,6 +58,7 @@ impl<'a> Writer<'a> {
     {
         let end = self.at + digits(number);
         let mut left = number;
+        // by index, since no proof knows what a loop over `iter_mut().rev()` has written
         for index in (self.at..end).rev() {
             self.out[index] = b'0' + (left % 10) as u8;
             left /= 10;

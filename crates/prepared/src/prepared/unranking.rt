@@ -13,7 +13,8 @@ use numbering::refusal::Refusal;
 use numbering::writing::write_plan;
 
 impl Prepared {
-    /// The number of plans and the size of the largest, where the buffers are long enough to write plans.
+    /// The number of plans and the size of the largest, where the buffers are long enough to write plans: without the tally
+    /// pass of numbering's own check.
     pub fn ready_to_write(&self, work: usize, plan: usize) -> Result<(u64, u16), Refusal>
         ensures answer { result ≡ answered (first_of (write_checks (table self.now) (table self.now).goals work plan)) (plans (table self.now), largest (table self.now)) }
         ensures room { OnOk result ((largest (table self.now) ≤ work) × (largest (table self.now) ≤ plan)) }

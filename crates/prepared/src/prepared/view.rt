@@ -1,4 +1,4 @@
-//! The prepared space as a space.
+//! The prepared space as a space: question by question, since there is no other way to hand a trait on to a field.
 
 ghost use Rattle.prepared.specs.Prepares.{table};
 
