@@ -25,6 +25,8 @@ mod memo_tests;
 #[cfg(test)]
 mod number_tests;
 #[cfg(test)]
+mod prepared_tests;
+#[cfg(test)]
 mod table;
 #[cfg(test)]
 mod text_tests;

@@ -53,7 +53,7 @@ pub fn make_buffers(
     })
 }
 
-fn common(a: &[Node], b: &[Node]) -> usize {
+pub fn common(a: &[Node], b: &[Node]) -> usize {
     a.iter().zip(b.iter()).take_while(|(x, y)| *x == *y).count()
 }
 
