@@ -13,7 +13,7 @@ use std::test::Fail;
 
 const MARK: Tally = Tally { count: 77, size: 7 };
 
-/// The list of a goal: one by one, past its end, by the iterator, and in one piece.
+/// The list of a goal: one by one, past its end, by the iterator, in one piece, and behind another.
 fn same_list<S: Space>(
     rt: &impl Abort,
     heap: Global,
@@ -31,7 +31,11 @@ fn same_list<S: Space>(
     }
     assert_eq!(rt; space.alternative(goal, u32::MAX), None);
     assert_eq!(rt; space.alternatives(goal).eq(list.iter().copied()), true);
-    assert_eq!(rt; space.list(goal, heap)?.as_slice() == list, true);
+    let mut twice = space.list(goal, heap)?;
+    assert_eq!(rt; twice.as_slice() == list, true);
+    space.list_into(goal, &mut twice)?;
+    assert_eq!(rt; twice.len() / 2, list.len());
+    assert_eq!(rt; twice.starts_with(list) && twice.ends_with(list), true);
     Ok(())
 }
 

@@ -3,30 +3,29 @@ ghost use Rattle.campaigns.specs.declared.refusal.CampaignRefusal.TheVariants.{C
 ghost use Rattle.campaigns.specs.Refusals.{number as number_of};
 
 use numbering::refusal::Refusal;
+use std::fmt;
 use thiserror::Error;
 
 /// Why a call on a campaign is refused.
 #[derive(Clone, Copy, PartialEq, Eq, Debug, Error)]
 pub enum CampaignRefusal {
     /// The space or a buffer that every call on a space needs is refused.
-    #[error("{0}")]
     Call(Refusal),
-    #[error("the values buffer is shorter than the largest plan")]
+    /// The values buffer has fewer entries than the largest plan has nodes.
     ValuesShort,
-    #[error("the space has not as many plans as the campaign's")]
+    /// The space has not as many plans as the one that the campaign was made from.
     OtherSpace,
-    #[error("every plan is drawn")]
+    /// Every plan is drawn.
     AllDrawn,
-    /// The fault has this number.
-    #[error("the baseline has a fault")]
+    /// The baseline has a fault, which has this number.
     BaselineFaults(u8),
-    #[error("results differ and the finds list is full")]
+    /// The results differ, and the finds list has no entry left.
     FindsShort,
-    #[error("no plan has the number of the start")]
+    /// The space has no plan with the number of the start.
     BadStart,
-    #[error("no plan has the number of the baseline")]
+    /// The space has no plan with the number of the baseline.
     BadBaseline,
-    #[error("the step is not 1 to the number of plans, or shares a divisor above 1 with it")]
+    /// The step is not 1 to the number of plans, or has a common divisor with it above 1.
     BadStep,
 }
 
@@ -54,5 +53,29 @@ impl CampaignRefusal {
             CampaignRefusal::BadBaseline => 46,
             CampaignRefusal::BadStep => 47,
         }
+    }
+
+    /// The reason in words.
+    pub fn reason(self) -> &'static str {
+        match self {
+            CampaignRefusal::Call(refusal) => refusal.reason(),
+            CampaignRefusal::ValuesShort => "the values buffer is shorter than the largest plan",
+            CampaignRefusal::OtherSpace => "the space has not as many plans as the campaign's",
+            CampaignRefusal::AllDrawn => "every plan is drawn",
+            CampaignRefusal::BaselineFaults(_) => "the baseline has a fault",
+            CampaignRefusal::FindsShort => "results differ and the finds list is full",
+            CampaignRefusal::BadStart => "no plan has the number of the start",
+            CampaignRefusal::BadBaseline => "no plan has the number of the baseline",
+            CampaignRefusal::BadStep => {
+                "the step is not 1 to the number of plans, or shares a divisor above 1 with it"
+            }
+        }
+    }
+}
+
+/// The reason.
+impl fmt::Display for CampaignRefusal {
+    fn fmt<W: fmt::Write>(&self, f: &mut fmt::Formatter<W>) -> fmt::Result {
+        f.write_str(self.reason())
     }
 }

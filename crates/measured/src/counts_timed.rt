@@ -14,27 +14,27 @@ use std::alloc::Global;
 /// The mask of all seven kinds.
 const EVERY_KIND: u8 = 0b111_1111;
 
-/// The sum of what the work gives, done so many times.
-fn sum_rounds<F: FnMut() -> Option<u64>>(rounds: u64, mut work: F) -> Option<u64>
+/// The sum of what the work gives, done so many times. A round that fails, which it does only for want of memory, adds nothing.
+fn sum_rounds<F: FnMut() -> Option<u64>>(rounds: u64, mut work: F) -> u64
     requires { F.IsAlwaysCallable work }
 {
     let mut sum: u64 = 0;
     for _ in 0..rounds {
-        sum = sum.wrapping_add(work()?);
+        sum = sum.wrapping_add(work().unwrap_or(0));
     }
-    Some(sum)
+    sum
 }
 
 fn count_rounds(heap: Global, relations: u64, rounds: u64) -> Option<u64> {
     let space = Bushy::new(relations, Kind::HashJoin).ok()?;
     let mut tallies = vec![in heap; Tally::default(); usize::from(space.goals())].ok()?;
-    sum_rounds(rounds, || {
+    Some(sum_rounds(rounds, || {
         let (plans, _) = count(&space, &mut tallies).ok()?;
         Some(plans)
-    })
+    }))
 }
 
-fn prepare_rounds<S: Space>(heap: Global, space: &S, rounds: u64) -> Option<u64> {
+fn prepare_rounds<S: Space>(heap: Global, space: &S, rounds: u64) -> u64 {
     sum_rounds(rounds, || {
         let (plans, _) = prepare(space, heap).ok()?.count();
         Some(plans)
@@ -46,7 +46,7 @@ fn prepare_layered(heap: Global, relations: u64, layers: u64, rounds: u64) -> Op
     let bare = Bushy::new(relations, Kind::MergeJoin).ok()?;
     let mask = KindMask::new(EVERY_KIND).ok()?;
     let filtered = KindFilter::new(bare, mask);
-    match layers {
+    let sum = match layers {
         0 => prepare_rounds(heap, &bare, rounds),
         1 => prepare_rounds(heap, &filtered, rounds),
         2 => prepare_rounds(heap, &OrderLayer::new(filtered, Order::Any), rounds),
@@ -54,7 +54,8 @@ fn prepare_layered(heap: Global, relations: u64, layers: u64, rounds: u64) -> Op
             let ordered = OrderLayer::new(filtered, Order::Any);
             prepare_rounds(heap, &KindFilter::new(ordered, mask), rounds)
         }
-    }
+    };
+    Some(sum)
 }
 
 /// Counts the bushy space with hash joins by the plain call.

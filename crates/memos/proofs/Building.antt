@@ -1,22 +1,18 @@
 -- The steps by which the lists of a memo grow, and that what was read is a space.
-use Rattle.std.proofs.Common.{◌≡◌, ℕ, ◌≤◌, List, [], ◌∷◌, ◌++◌, get_or, sym, refl, ap, ◌∙◌, subst, inl, inr, append-nil, arith}
+use Rattle.std.proofs.Common.{◌≡◌, ℕ, ◌≤◌, List, [], ◌∷◌, ◌++◌, sym, refl, ap, ◌∙◌, subst, inl, inr, append-nil, arith}
 use Rattle.std.specs.List.{AllByRecursion}
 use Rattle.std.proofs.lemmas.Bool.{cases_eq, ne_eqb}
 use Rattle.spaces.specs.declared.space.Alternative.{Alternative}
 use Rattle.spaces.specs.Spaces.{Lawful, Sound}
 use Rattle.memos.specs.declared.fields.Record.{Record}
 use Rattle.memos.specs.Memos.{Contents, Fitting, WellFormed, listing, space_of}
-use Rattle.memos.specs.Opens.{Stored}
+use Rattle.memos.specs.Opens.{Built, Stored}
 use Rattle.memos.proofs.Listings.{listing_append, listing_own, listing_other, listing_short}
 
--- the lists are those of the records that were read
-abbrev pub Built : List Record → List (List Alternative) → Type 0
-Built sofar lists = (g : ℕ) → get_or lists g [] ≡ listing sofar g
-
-pub built_store : (sofar : List Record) (old new : List (List Alternative)) (r : Record) → Built sofar old → Stored old new r → Built (sofar ++ (r ∷ [])) new
+pub built_store : (sofar : List Record) (old new : ℕ → List Alternative) (r : Record) → Built sofar old → Stored old new r → Built (sofar ++ (r ∷ [])) new
 built_store sofar old new r b s g =
     elim (cases_eq r.goal g) [
-      | inl e ↦ subst (λ k. get_or new k [] ≡ listing (sofar ++ (r ∷ [])) k) e
+      | inl e ↦ subst (λ k. new k ≡ listing (sofar ++ (r ∷ [])) k) e
           (s.own ∙ ap (λ xs. xs ++ (r.alternative ∷ [])) (b r.goal) ∙ sym (listing_append sofar (r ∷ []) r.goal ∙ ap (λ ys. listing sofar r.goal ++ ys) (listing_own r [])))
       | inr ne ↦ s.others g ne ∙ b g ∙ sym (listing_append sofar (r ∷ []) g ∙ ap (λ ys. listing sofar g ++ ys) (listing_other r [] g (ne_eqb r.goal g ne)) ∙ append-nil (listing sofar g))
     ]

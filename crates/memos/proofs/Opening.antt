@@ -4,12 +4,12 @@ use Rattle.std.specs.List.{AllByRecursion}
 use Rattle.std.proofs.ByRecursion.{All-from_get_or}
 use Rattle.spaces.specs.declared.space.Alternative.{Alternative}
 use Rattle.spaces.specs.Spaces.{Lawful, Meaning}
-use Rattle.spaces.specs.Tables.{tabled}
 use Rattle.memos.specs.declared.fields.Header.{Header}
 use Rattle.memos.specs.declared.refusal.OpenRefusal.{OpenRefusal}
 use Rattle.memos.specs.Memos.{Contents}
 use Rattle.memos.specs.Rules.{first, header_end, header_rules, word_at}
 use Rattle.memos.specs.Reading.{header_at, memo_of, passed, read_header, read_records, reading, root_at}
+use Rattle.memos.specs.Slices.{slice_space, sliced}
 use Rattle.memos.specs.Opens.{FirstFits, NotOpened, Opened, ReadAll, Stops, Storing}
 use Rattle.memos.proofs.Answered.{passed_ok}
 use Rattle.memos.proofs.Building.{memo_lawful}
@@ -33,8 +33,8 @@ module _ (file : List ℕ) (h : Header) (headed : read_header file ≡ Ok h) whe
   records_stop e (inl r) = inl (r.0, record { headed = parts.0; stored = subst (λ (x : Header). FirstFits file x.goals x.end) (sym parts.1) r.1 })
   records_stop e (inr r) = inr (goes_on ∙ ap (memo_of h.goals h.root) r)
 
-  pub loaded : (lists : List (List Alternative)) → AllByRecursion (λ b. b < 256) file → ReadAll file h.goals h.end lists → Opened file (tabled h.goals h.root lists)
-  loaded lists all d =
+  pub loaded : (items : List Alternative) (starts : List ℕ) → AllByRecursion (λ b. b < 256) file → ReadAll file h.goals h.end (sliced items starts) → Opened file (slice_space h.goals h.root items starts)
+  loaded items starts all d =
       let m : Contents = record { goals = h.goals; root = h.root; records = d.records } in
       let is : reading file ≡ Ok m = goes_on ∙ ap (memo_of h.goals h.root) d.read in
       record { memo = m; encodes = reading_encodes file m all is; means = λ i. record { goals = h.goals; root = h.root; lists = λ k. d.built k i } }

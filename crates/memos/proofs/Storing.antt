@@ -1,59 +1,90 @@
--- The lists of the goals, with one more alternative.
-use Rattle.std.proofs.Common.{◌≡◌, ℕ, zero, suc, ◌+◌, ◌<◌, ◌≤◌, Bool, false, ◌||◌, List, [], ◌∷◌, ◌++◌, length, get_or, take, set, Some, None, Option, MatchOption, sym, refl, ap, ◌∙◌, arith, Bor, Vec, vec_items}
-use Rattle.std.specs.Slice.{IsItemAt}
-use Rattle.std.specs.declared.alloc.Global.{Global}
-use Rattle.std.specs.List.{AllByRecursion, FoldsTo, list_any}
-use Rattle.std.proofs.lemmas.List.{get_or_past, get_or-set_same, get_or-set_other, map-append, map-set, length-map, length-set, take_all}
+-- The list of all alternatives, with one more at its end.
+use Rattle.std.proofs.Common.{◌≡◌, ℕ, zero, suc, ◌+◌, ◌-◌, ◌<◌, ◌≤◌, Bool, ◌||◌, List, [], ◌∷◌, ◌++◌, length, get_or, take, drop, replicate, sym, refl, ap, ◌∙◌, inl, inr, arith, length-drop}
+use Rattle.std.specs.List.{list_any}
+use Rattle.std.proofs.lemmas.Bool.{cases_lt}
+use Rattle.std.proofs.lemmas.List.{drop-append-le, get_or-replicate, get_or_default, get_or_past, length-replicate, length_push, take-append-le, take_all, take_rest}
 use Rattle.spaces.specs.declared.space.Alternative.{Alternative}
-use Rattle.spaces.specs.Tables.{held}
 use Rattle.memos.specs.Opens.{Stored}
 use Rattle.memos.specs.Rules.{among, same as alike}
+use Rattle.memos.specs.Slices.{Indexed, begins, sliced}
 
--- what holds of each answer of a call holds of all that some calls answered
-pub made_all : {F X : Type 0} (step : F → X → F → Type 0) (Q : X → Type 0) → ((f : F) (x : X) (g : F) → step f x g → Q x) → (xs : List X) (f g : F) → FoldsTo step f xs g → AllByRecursion Q xs
-made_all step Q each [] f g calls = tt
-made_all step Q each (x ∷ xs) f g calls = (each f x calls.0 calls.1, made_all step Q each xs calls.0 g calls.2)
+-- ---------- one more
 
--- empty lists at the end change no list
-all_empty : {X : Type 0} (ys : List (List X)) → AllByRecursion (λ y. y ≡ []) ys → (k : ℕ) → get_or ys k [] ≡ []
-all_empty [] h k = refl
-all_empty (y ∷ ys) h zero = h.0
-all_empty (y ∷ ys) h (suc k) = all_empty ys h.1 k
+all_end : (n d k : ℕ) → get_or (replicate n d) k d ≡ d
+all_end n d k = elim (cases_lt k n) [
+  | inl h ↦ get_or-replicate n k d d h
+  | inr h ↦ get_or_past (replicate n d) k d (omega (arith, length-replicate n d))
+]
 
-padded : {X : Type 0} (xs ys : List (List X)) → AllByRecursion (λ y. y ≡ []) ys → (k : ℕ) → get_or (xs ++ ys) k [] ≡ get_or xs k []
-padded [] ys h k = all_empty ys h k
-padded (x ∷ xs) ys h zero = refl
-padded (x ∷ xs) ys h (suc k) = padded xs ys h k
+-- starts that say the end of the list are as good as none
+padded : (starts : List ℕ) (n d k : ℕ) → get_or (starts ++ replicate n d) k d ≡ get_or starts k d
+padded [] n d k = all_end n d k
+padded (s ∷ starts) n d zero = refl
+padded (s ∷ starts) n d (suc k) = padded starts n d k
 
-held_empty : (ys : List (Vec Alternative Global)) → AllByRecursion (λ y. y.items ≡ []) ys → AllByRecursion (λ y. y ≡ []) (held ys)
-held_empty [] h = tt
-held_empty (y ∷ ys) h = (h.0, held_empty ys h.1)
-
-held_at : (vs : List (Vec Alternative Global)) (k : ℕ) (d : Vec Alternative Global) → k < length vs → get_or (held vs) k [] ≡ (get_or vs k d).items
-held_at [] k d h = absurd (omega arith)
-held_at (v ∷ vs) zero d h = refl
-held_at (v ∷ vs) (suc k) d h = held_at vs k d (omega arith)
-
-module _ (at : ℕ) (a : Alternative) (olds news ys : List (Vec Alternative Global)) (v : Vec Alternative Global) (few : length olds ≤ at + 1) (is : news ≡ take (at + 1) olds ++ ys) (long : length news ≡ at + 1) (empty : AllByRecursion (λ y. y.items ≡ []) ys) where
-  same : (k : ℕ) → get_or (held news) k [] ≡ get_or (held olds) k []
+-- The starts `more` are those that stood, and up to `goal` the end of the list.
+module _ (goal : ℕ) (items : List Alternative) (starts more : List ℕ) (n d : ℕ) (ix : Indexed items starts) (few : length starts ≤ goal + 1) (ends : d ≡ length items) (is : more ≡ take (goal + 1) starts ++ replicate n d) (long : length more ≡ goal + 1) where
+  same : (k : ℕ) → begins items more k ≡ begins items starts k
   same k =
-      ap (λ vs. get_or (held vs) k []) (is ∙ ap (λ vs. vs ++ ys) (take_all (at + 1) olds few))
-      ∙ ap (λ vs. get_or vs k []) (map-append vec_items olds ys)
-      ∙ padded (held olds) (held ys) (held_empty ys empty) k
+      ap (λ xs. get_or xs k (length items)) (is ∙ (λ i. take_all (goal + 1) starts few i ++ replicate n (ends i)))
+      ∙ padded starts n (length items) k
 
-  inside : at < length (held news)
-  inside = omega (arith, length-map news vec_items)
+  early : (now : List Alternative) (k : ℕ) → k ≤ goal → begins now more k ≡ begins items starts k
+  early now k h = get_or_default more k (length now) (length items) (omega arith) ∙ same k
 
-  pub stored : (was : Vec Alternative Global) → was ≡ get_or news at was → v.items ≡ was.items ++ (a ∷ []) → Stored (held olds) (held (set news at v)) (record { goal = at; alternative = a })
-  stored was here e = record {
-    last = ap length (map-set vec_items news at v) ∙ length-set (held news) at v.items ∙ length-map news vec_items ∙ long;
+  late : (xs : List Alternative) (k : ℕ) → goal < k → begins xs more k ≡ length xs
+  late xs k h = get_or_past more k (length xs) (omega arith)
+
+  pub stored_indexed : (now : List Alternative) → length items ≤ length now → Indexed now more
+  stored_indexed now grown = (rises, within)
+    where
+      within : (k : ℕ) → begins now more k ≤ length now
+      within k = elim (cases_lt goal k) [ inl h ↦ omega (arith, late now k h) | inr h ↦ omega (arith, early now k h, ix.1 k) ]
+
+      rises : (k : ℕ) → begins now more k ≤ begins now more (k + 1)
+      rises k = elim (cases_lt goal (k + 1)) [
+        | inl h ↦ omega (arith, within k, late now (k + 1) h)
+        | inr h ↦ omega (arith, early now k (omega arith), early now (k + 1) h, ix.0 k)
+      ]
+
+  module _ (a : Alternative) where
+    abbrev now : List Alternative
+    now = items ++ (a ∷ [])
+
+    -- what stands from the begin of a goal on that is at most the last
+    behind : (k : ℕ) → k ≤ goal → drop (begins now more k) now ≡ drop (begins items starts k) items ++ (a ∷ [])
+    behind k h = ap (λ s. drop s now) (early now k h) ∙ drop-append-le (begins items starts k) items (a ∷ []) (ix.1 k)
+
+    own : sliced now more goal ≡ sliced items starts goal ++ (a ∷ [])
     own =
-        ap (λ vs. get_or vs at []) (map-set vec_items news at v)
-        ∙ get_or-set_same (held news) at v.items [] inside
-        ∙ e
-        ∙ ap (λ xs. xs ++ (a ∷ [])) (ap vec_items here ∙ sym (held_at news at was (omega arith)) ∙ same at);
-    others = λ k ne. ap (λ vs. get_or vs k []) (map-set vec_items news at v) ∙ get_or-set_other (held news) at k v.items [] (λ q. ne (sym q)) ∙ same k;
-  }
+        let s = begins items starts goal in
+        let tail = drop s items ++ (a ∷ []) in
+        let w : s ≤ length items = ix.1 goal in
+        let t : length tail ≡ length (drop s items) + 1 = length_push (drop s items) a in
+        (λ i. take ((late now (goal + 1) (omega arith) ∙ length_push items a) i - early now goal (omega arith) i) (behind goal (omega arith) i))
+        ∙ take_all (length items + 1 - s) tail (omega (arith, length-drop s items))
+        ∙ ap (λ xs. xs ++ (a ∷ [])) (sym (ap (λ e. take (e - s) (drop s items)) (sym (same (goal + 1)) ∙ late items (goal + 1) (omega arith)) ∙ take_rest items s))
+
+    lower : (k : ℕ) → k < goal → sliced now more k ≡ sliced items starts k
+    lower k h =
+        let s = begins items starts k in
+        let e = begins items starts (k + 1) in
+        (λ i. take (early now (k + 1) (omega arith) i - early now k (omega arith) i) (behind k (omega arith) i))
+        ∙ take-append-le (e - s) (drop s items) (a ∷ []) (omega (arith, length-drop s items, ix.1 (k + 1)))
+
+    none : (xs : List Alternative) (k : ℕ) → goal < k → sliced xs more k ≡ []
+    none xs k h =
+        let z : begins xs more (k + 1) - begins xs more k ≡ 0 = omega (arith, late xs k h, late xs (k + 1) (omega arith)) in
+        ap (λ e. take e (drop (begins xs more k) xs)) z
+
+    higher : (k : ℕ) → goal < k → sliced now more k ≡ sliced items starts k
+    higher k h = none now k h ∙ sym (none items k h) ∙ (λ i. take (same (k + 1) i - same k i) (drop (same k i) items))
+
+    pub stored : Stored (sliced items starts) (sliced now more) (record { goal = goal; alternative = a })
+    stored = record {
+      own = own;
+      others = λ k ne. elim (cases_lt k goal) [ inl h ↦ lower k h | inr h ↦ higher k (omega arith) ];
+    }
 
 -- ---------- what stands in a list
 
@@ -64,9 +95,3 @@ any_among p a h (x ∷ xs) = λ i. h x i || any_among p a h xs i
 -- what `contains` answers
 pub contained : (p : Alternative → Bool) (xs : List Alternative) (a : Alternative) (b : Bool) → b ≡ list_any p xs → ((x : Alternative) → p x ≡ alike x a) → b ≡ among xs a
 contained p xs a b e h = e ∙ any_among p a h xs
-
-pub found : (vs : List (Vec Alternative Global)) (k g : ℕ) (a : Alternative) (o : Option (Bor (Vec Alternative Global))) (b : Bool) (P : Bor (Vec Alternative Global) → Type 0) → k ≡ g → IsItemAt vs k o → ((x : Bor (Vec Alternative Global)) → P x → b ≡ among x.now.items a) → MatchOption o (b ≡ false) P → b ≡ among (get_or (held vs) g []) a
-found vs k g a None b P same at said h =
-    h ∙ ap (λ xs. among xs a) (sym (get_or_past (held vs) g [] (omega (arith, length-map vs vec_items, at.3))))
-found vs k g a (Some x) b P same at said h =
-    said x h ∙ ap (λ xs. among xs a) (ap vec_items at.1 ∙ sym (held_at vs k x.now at.3.0) ∙ ap (λ n. get_or (held vs) n []) same)

@@ -3,5 +3,6 @@ pub mod Opens
 pub mod Reading
 pub mod Refusals
 pub mod Rules
+pub mod Slices
 pub mod Views
 pub mod Worked

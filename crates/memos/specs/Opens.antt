@@ -1,5 +1,5 @@
 -- What the opening of a file answers, and the laws of the format.
-use Rattle.std.specs.Prelude.{◌≡◌, ◌≢◌, ℕ, ◌+◌, ◌<◌, ◌⊎◌, List, [], ◌∷◌, ◌++◌, length, take, slice_index_or, Some, None, Ok, Err, Result}
+use Rattle.std.specs.Prelude.{◌≡◌, ◌≢◌, ℕ, ◌<◌, ◌⊎◌, List, [], ◌∷◌, ◌++◌, length, take, Some, None, Ok, Err, Result}
 use Rattle.spaces.specs.declared.space.Alternative.{Alternative}
 use Rattle.spaces.specs.Spaces.{Meaning}
 use Rattle.memos.specs.declared.fields.Record.{Record}
@@ -71,14 +71,17 @@ NotOpened file e = ((e ≡ NoMemory) × Storing file) ⊎ Refused file e
 abbrev pub Stops : {X : Type 0} → Type 0 → OpenRefusal → Result X OpenRefusal → Type 0
 Stops W e r = ((e ≡ NoMemory) × W) ⊎ (r ≡ Err e)
 
--- The alternative of a record stands behind those of its goal, whose list is the last. The other goals' lists are as they were.
-pub record Stored (old new : List (List Alternative)) (r : Record) : Type 0 where
-  pub last : length new ≡ r.goal + 1
-  pub own : slice_index_or new r.goal [] ≡ slice_index_or old r.goal [] ++ (r.alternative ∷ [])
-  pub others : (g : ℕ) → r.goal ≢ g → slice_index_or new g [] ≡ slice_index_or old g []
+-- The alternative of a record stands behind those of its goal. The other goals' lists are as they were.
+pub record Stored (old new : ℕ → List Alternative) (r : Record) : Type 0 where
+  pub own : new r.goal ≡ old r.goal ++ (r.alternative ∷ [])
+  pub others : (g : ℕ) → r.goal ≢ g → new g ≡ old g
+
+-- the lists are those of the records
+abbrev pub Built : List Record → (ℕ → List Alternative) → Type 0
+Built records lists = (g : ℕ) → lists g ≡ listing records g
 
 -- all records from a place on were read, and the lists hold their alternatives, goal by goal
-pub record ReadAll (file : List ℕ) (goals from : ℕ) (lists : List (List Alternative)) : Type 0 where
+pub record ReadAll (file : List ℕ) (goals from : ℕ) (lists : ℕ → List Alternative) : Type 0 where
   pub records : List Record
   pub read : read_records 4096 file goals [] 0 from ≡ Ok records
-  pub built : (g : ℕ) → slice_index_or lists g [] ≡ listing records g
+  pub built : Built records lists

@@ -1,11 +1,11 @@
 -- What a view means.
-use Rattle.std.specs.Prelude.{[]}
+use Rattle.std.specs.Prelude.{[], vec_items}
 use Rattle.spaces.specs.Spaces.{Meaning}
-use Rattle.spaces.specs.TableSpaces.{table_space}
 use Rattle.memos.specs.declared.memo.Memo.{Memo}
+use Rattle.memos.specs.Slices.{slice_space}
 
 abbrev pub view : Memo → Meaning
-view s = table_space s.table
+view s = slice_space s.goals s.root (vec_items s.lists.items) (vec_items s.lists.starts)
 
 -- the space of no goals
 abbrev pub no_goals : Meaning

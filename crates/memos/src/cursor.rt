@@ -52,9 +52,9 @@ impl<'f> Cursor<'f> {
             (length self.old.file.now < self.old.at + 2)
             (λ w. (w ≡ word_at self.old.file.now self.old.at) × (self.new.at ≡ self.old.at + 2)) }
     {
-        let low = self.byte()?;
-        let high = self.byte()?;
-        Some(u16::from_le_bytes([low, high]))
+        let bytes = *self.file[self.at..].first_chunk::<2>()?;
+        self.at += 2;
+        Some(u16::from_le_bytes(bytes))
     }
 
     /// Passes a field where its bit stands, if the file has it.

@@ -1,16 +1,25 @@
 //! A view of a memo file.
 
-use crate::load::load;
+ghost use Rattle.spaces.specs.Laws.{lawful_prop};
+ghost use Rattle.spaces.specs.Spaces.{Lawful};
+ghost use Rattle.memos.specs.Slices.{slice_space};
+
+use crate::cursor::Cursor;
+use crate::header::read_header;
+use crate::lists::Lists;
+use crate::load::read_records;
 use crate::refusal::OpenRefusal;
 use spaces::space::{Alternative, Space};
-use spaces::table::Table;
 use std::alloc::{AllocError, Global};
 
 /// A plan space as a memo file holds it.
 #[derive(Drop)]
 pub struct Memo {
     heap: Global,
-    table: Table,
+    goals: u16,
+    root: u16,
+    lists: Lists,
+    ghost lawful: { Lawful (slice_space goals root lists.items.items lists.starts.items) } by { lawful_prop _ },
 }
 
 impl Memo {
@@ -24,8 +33,24 @@ impl Memo {
     {
         Memo {
             heap,
-            table: Table::new(0, 0, Vec::new(heap)),
+            goals: 0,
+            root: 0,
+            lists: Lists::new(heap),
         }
+    }
+
+    /// The memo that a file holds.
+    fn read(heap: Global, file: &[u8]) -> Result<Memo, OpenRefusal>
+        ensures { MatchResult result (λ m. Opened file.now (view m)) (λ e. NotOpened file.now e) }
+    {
+        let header = read_header(file)?;
+        let lists = read_records(heap, Cursor::new(file, header.end), header.goals)?;
+        Ok(Memo {
+            heap,
+            goals: header.goals,
+            root: header.root,
+            lists,
+        })
     }
 
     /// Fills the view with the memo that the file holds. A refused file leaves the view as it was.
@@ -34,37 +59,36 @@ impl Memo {
         ensures same { OnErr result (self.new ≡ self.old) }
         ensures format { Settled file.now }
     {
-        let table = load(self.heap, file)?;
-        self.table = table;
+        let memo = Memo::read(self.heap, file)?;
+        *self = memo;
         Ok(())
     }
 }
 
-/// Question by question, since there is no other way to hand a trait on to a field.
 impl Space for Memo {
     ghost use Rattle.memos.specs.Views.{view};
 
     ghost meaning = { view };
 
-    ghost lawful = { λ s. s.table.lawful };
+    ghost lawful = { λ s. s.lawful };
 
     fn goals(&self) -> u16 {
-        self.table.goals()
+        self.goals
     }
 
     fn root(&self) -> u16 {
-        self.table.root()
+        self.root
     }
 
     fn width(&self, goal: u16) -> u32 {
-        self.table.width(goal)
+        self.lists.goal_list(goal).len() as u32
     }
 
     fn alternative(&self, goal: u16, index: u32) -> Option<Alternative> {
-        self.table.alternative(goal, index)
+        self.lists.goal_list(goal).get(index as usize).copied()
     }
 
     fn list(&self, goal: u16, heap: Global) -> Result<Vec<Alternative>, AllocError> {
-        self.table.list(goal, heap)
+        self.lists.goal_list(goal).to_vec(heap)
     }
 }

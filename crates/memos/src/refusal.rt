@@ -5,6 +5,7 @@ ghost use Rattle.memos.specs.Refusals.{number_of, place_of};
 ghost use Rattle.memos.specs.declared.refusal.OpenRefusal.TheVariants.{NoMemory};
 
 use std::alloc::{AllocError, AllocFailed};
+use std::fmt;
 use thiserror::Error;
 
 /// Why a file is not opened: the first rule of the format that it breaks, or want of memory.
@@ -12,35 +13,35 @@ use thiserror::Error;
 /// The rules on records carry a place, the offset of the bit map of the record that breaks the rule.
 #[derive(Clone, Copy, PartialEq, Eq, Debug, Error)]
 pub enum OpenRefusal {
-    #[error("the file is longer than 60,000 bytes")]
+    /// The file is longer than 60,000 bytes.
     LongFile,
-    #[error("the header's bit map is none that a header can have")]
+    /// The header's bit map lacks bit 0, or has a bit above 1.
     HeaderBits,
-    #[error("the file ends inside the header")]
+    /// The file ends inside the header.
     HeaderEnds,
-    #[error("the number of goals is not 1 to 4,096")]
+    /// The number of goals is 0 or above 4,096.
     GoalCount,
-    #[error("a written root is not below the last goal")]
+    /// The root is written and is not below the last goal.
     RootWritten,
-    #[error("this record comes after 4,096 others")]
+    /// There are 4,096 records before this one.
     ManyRecords(usize),
-    #[error("this record's bit map has a bit above 4")]
+    /// The record's bit map has a bit above 4.
     RecordBits(usize),
-    #[error("the file ends inside this record")]
+    /// The file ends inside the record.
     RecordEnds(usize),
-    #[error("this record has no goal, or one that is too high or does not rise")]
+    /// The first record has no goal, or a goal is written that does not exist or does not rise.
     GoalOrder(usize),
-    #[error("this record's kind is above 6, or 0 and written")]
+    /// The kind is above 6, or 0 and written.
     NoKind(usize),
-    #[error("this record's children do not fit its kind")]
+    /// The children that are written are not those that the kind has.
     ChildBits(usize),
-    #[error("this record's tag is 0 and written")]
+    /// The tag is written and 0.
     ZeroTag(usize),
-    #[error("a child of this record is not below its goal")]
+    /// A child is not below the record's goal.
     ChildOrder(usize),
-    #[error("this record repeats another of its goal")]
+    /// The goal has an equal record already.
     Repeated(usize),
-    #[error("there is no memory for the memo")]
+    /// There is no memory for the memo.
     NoMemory,
 }
 
@@ -89,6 +90,35 @@ impl OpenRefusal {
             | OpenRefusal::Repeated(at) => Some(at),
             OpenRefusal::NoMemory => None,
         }
+    }
+
+    /// The rule in plain words, for a message.
+    pub fn reason(&self) -> &'static str {
+        match self {
+            OpenRefusal::LongFile => "the file is longer than 60,000 bytes",
+            OpenRefusal::HeaderBits => "the header's bit map is none that a header can have",
+            OpenRefusal::HeaderEnds => "the file ends inside the header",
+            OpenRefusal::GoalCount => "the number of goals is not 1 to 4,096",
+            OpenRefusal::RootWritten => "a written root is not below the last goal",
+            OpenRefusal::ManyRecords(_) => "this record comes after 4,096 others",
+            OpenRefusal::RecordBits(_) => "this record's bit map has a bit above 4",
+            OpenRefusal::RecordEnds(_) => "the file ends inside this record",
+            OpenRefusal::GoalOrder(_) =>
+                "this record has no goal, or one that is too high or does not rise",
+            OpenRefusal::NoKind(_) => "this record's kind is above 6, or 0 and written",
+            OpenRefusal::ChildBits(_) => "this record's children do not fit its kind",
+            OpenRefusal::ZeroTag(_) => "this record's tag is 0 and written",
+            OpenRefusal::ChildOrder(_) => "a child of this record is not below its goal",
+            OpenRefusal::Repeated(_) => "this record repeats another of its goal",
+            OpenRefusal::NoMemory => "there is no memory for the memo",
+        }
+    }
+}
+
+/// The reason.
+impl fmt::Display for OpenRefusal {
+    fn fmt<W: fmt::Write>(&self, f: &mut fmt::Formatter<W>) -> fmt::Result {
+        f.write_str(self.reason())
     }
 }
 

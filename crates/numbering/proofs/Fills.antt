@@ -1,5 +1,5 @@
 -- A tally buffer as it is filled, goal after goal.
-use Rattle.std.proofs.Common.{◌≡◌, ℕ, zero, suc, ◌+◌, ◌<◌, ◌≤◌, min, false, ◌||◌, ltb, List, [], ◌∷◌, ◌++◌, map, length, get_or, drop, set, Some, None, Option, sym, refl, ap, ap₂, ◌∙◌, ⊎_elim, append_assoc, add-one, arith}
+use Rattle.std.proofs.Common.{◌≡◌, ℕ, zero, suc, ◌+◌, ◌<◌, ◌≤◌, Bool, false, ◌||◌, ltb, List, [], ◌∷◌, ◌++◌, map, length, get_or, drop, set, Some, None, Option, sym, refl, ap, ap₂, ◌∙◌, ⊎_elim, append_assoc, add-one, arith}
 use Rattle.std.proofs.lemmas.List.FromFn.{get_or-map-range_with_len, length-map-range_with_len, map-range_with_len_more}
 use Rattle.std.proofs.lemmas.List.Folds.{list_any-append}
 use Rattle.std.proofs.lemmas.List.{drop_more, get_or_append_left, set_at}
@@ -31,14 +31,19 @@ filled_more m n ts h =
     sym (append_assoc front (tally m n ∷ []) (drop (n + 1) ts)) ∙
     sym (ap (λ r. r ++ drop (n + 1) ts) (map-range_with_len_more (tally m) 0 n n (omega arith)))
 
+cut_many : (m : Meaning) (n : ℕ) → ltb most_plans (tally m n).count ≡ ltb most_plans (count m (Some n))
+cut_many m n = grind (arith, nat_tests)
+
+over_more : (m : Meaning) (n : ℕ) → (over m n || ltb most_plans (tally m n).count) ≡ over m (n + 1)
+over_more m n = ap (λ b. over m n || b) (cut_many m n) ∙ sym (ap (over m) (add-one n))
+
 pub over_any : (m : Meaning) (n : ℕ) → list_any many (map (tally m) (range_with_len 0 n)) ≡ over m n
 over_any m zero = refl
 over_any m (suc n) =
-    let cut_many : ltb most_plans (min (count m (Some n)) (suc most_plans)) ≡ ltb most_plans (count m (Some n)) = grind (arith, nat_tests) in
     ap (λ k. list_any many (map (tally m) (range_with_len 0 k))) (sym (add-one n))
     ∙ ap (list_any many) (map-range_with_len_more (tally m) 0 n n (omega arith))
     ∙ list_any-append many (map (tally m) (range_with_len 0 n)) (tally m n ∷ [])
-    ∙ ap₂ ◌||◌ (over_any m n) (or-false (many (tally m n)) ∙ cut_many)
+    ∙ ap₂ ◌||◌ (over_any m n) (or-false (many (tally m n)) ∙ cut_many m n)
 
 -- where no goal below n has too many plans, its count is not cut off
 pub count_most : (m : Meaning) (n g : ℕ) → over m n ≡ false → g < n → count m (Some g) ≤ most_plans
@@ -73,8 +78,12 @@ module _ (m : Meaning) (law : Lawful m) where
       list_cut (exact m) (m.lists n) ∙
       ap cut (sym (made_is (count_goal m law n) (size_goal m law n)))
 
-  -- one goal more is written, at its place k
-  pub fill_step : (n k : ℕ) (start ts : List Tally) (t : Tally) → n < length start → k ≡ n → ts ≡ filled m n start → t ≡ cut (of_list (look ts) (m.lists n)) → set ts k t ≡ filled m (n + 1) start
-  fill_step n k start ts t h place e r =
-      let is : t ≡ tally m n = r ∙ ap (λ us. cut (of_list (look us) (m.lists n))) e ∙ goal_is n start in
-      ap₂ (λ j u. set ts j u) place is ∙ ap (λ us. set us n (tally m n)) e ∙ filled_more m n start h
+  -- one goal more is written, at its place k: whether it has too many plans is told by its tally, and with it whether one of the goals up to it has
+  pub fill_step : (n k : ℕ) (start ts : List Tally) (t : Tally) (b : Bool) → n < length start → k ≡ n → ts ≡ filled m n start → b ≡ over m n →
+      t ≡ cut (of_list (look ts) (m.lists n)) →
+      ((b || ltb most_plans t.count) ≡ over m (n + 1)) × (set ts k t ≡ filled m (n + 1) start)
+  fill_step n k start ts t b h place e o r =
+      let is : t ≡ tally m n = r ∙ ap (λ us. cut (of_list (look us) (m.lists n))) e ∙ goal_is n start in (
+        ap (λ (u : Tally). b || ltb most_plans u.count) is ∙ ap (λ v. v || ltb most_plans (tally m n).count) o ∙ over_more m n,
+        ap₂ (λ j u. set ts j u) place is ∙ ap (λ us. set us n (tally m n)) e ∙ filled_more m n start h,
+      )

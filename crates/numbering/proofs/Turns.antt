@@ -1,8 +1,9 @@
 -- Turns of a loop over a goal's alternatives: those that were passed, and those ahead, are the goal's list.
-use Rattle.std.proofs.Common.{◌≡◌, ℕ, ◌+◌, ◌<◌, ◌≤◌, List, [], ◌∷◌, ◌++◌, length, take, Some, Option, sym, refl, ap, ◌∙◌, append_assoc, append-nil, arith}
+use Rattle.std.proofs.Common.{◌≡◌, ℕ, ◌+◌, ◌<◌, ◌≤◌, List, [], ◌∷◌, ◌++◌, length, take, Some, Option, sym, ap, ◌∙◌, arith}
 use Rattle.std.proofs.Math.Seq.{take-append_seam}
 use Rattle.std.specs.List.{AllByRecursion, slice_get}
 use Rattle.spaces.specs.declared.space.Alternative.{Alternative}
+use Rattle.spaces.specs.Places.{nth_seam}
 use Rattle.spaces.specs.Spaces.{Lawful, Meaning}
 use Rattle.numbering.specs.declared.tally.Tally.{Tally}
 use Rattle.numbering.specs.Plans.{all_ways, count, ways}
@@ -21,23 +22,12 @@ pub all_push : {X : Type 0} (P : X → Type 0) (xs : List X) (x : X) → AllByRe
 all_push P [] x all h = (h, tt)
 all_push P (y ∷ xs) x all h = (all.0, all_push P xs x all.1 h)
 
-here : {X : Type 0} (passed ahead : List X) (x : X) → slice_get (passed ++ (x ∷ ahead)) (length passed) ≡ Some x
-here [] ahead x = refl
-here (y ∷ passed) ahead x = here passed ahead x
-
--- the turn for the next alternative of a list, where it was ahead
-module _ {X : Type 0} (xs passed before ahead : List X) (x : X) (whole : passed ++ before ≡ xs) (next : before ≡ x ∷ ahead) where
-  found : slice_get xs (length passed) ≡ Some x
-  found = ap (λ ys. slice_get ys (length passed)) (sym whole ∙ ap (λ ys. passed ++ ys) next) ∙ here passed ahead x
-
-  pub went : (passed ++ (x ∷ [])) ++ ahead ≡ xs
-  went = append_assoc passed (x ∷ []) ahead ∙ sym (ap (λ ys. passed ++ ys) next) ∙ whole
+-- the next of a list, where it was ahead
+found : {X : Type 0} (xs passed before ahead : List X) (x : X) → passed ++ before ≡ xs → before ≡ x ∷ ahead → slice_get xs (length passed) ≡ Some x
+found xs passed before ahead x whole next = ap (λ ys. slice_get ys (length passed)) (sym whole ∙ ap (λ ys. passed ++ ys) next) ∙ nth_seam passed ahead x
 
 passed_is : {X : Type 0} (xs passed before : List X) → passed ++ before ≡ xs → take (length passed) xs ≡ passed
 passed_is xs passed before whole = ap (take (length passed)) (sym whole) ∙ take-append_seam passed before
-
-pub all_passed : {X : Type 0} (xs passed before : List X) → passed ++ before ≡ xs → before ≡ [] → passed ≡ xs
-all_passed xs passed before whole none = sym (append-nil passed) ∙ ap (λ ys. passed ++ ys) (sym none) ∙ whole
 
 -- ---- tallies that stand in ts, read in the turn for the alternative a of goal g, behind those that were passed
 

@@ -1,34 +1,35 @@
 ghost use Rattle.std.specs.Prelude.{◌≡◌};
 ghost use Rattle.numbering.specs.Refusals.{number as number_of, place as place_of};
 
+use std::fmt;
 use thiserror::Error;
 
 /// Why a call on a space is refused. A place is how many nodes of the list fit.
 #[derive(Clone, Copy, PartialEq, Eq, Debug, Error)]
 pub enum Refusal {
-    #[error("the space has no goals")]
+    /// The space has no goals.
     NoGoals,
-    #[error("the tally buffer is shorter than the number of goals")]
+    /// The tally buffer has fewer entries than there are goals.
     TalliesShort,
-    #[error("some goal has more than 10^18 plans")]
+    /// Some goal has more than 10^18 plans.
     TooManyPlans,
-    #[error("the largest plan has more than 1,024 nodes")]
+    /// The largest plan has more than 1,024 nodes.
     PlansTooLarge,
-    #[error("the work buffer is shorter than the largest plan")]
+    /// The work buffer has fewer entries than the largest plan has nodes.
     WorkShort,
-    #[error("the plan buffer is shorter than the largest plan")]
+    /// The plan buffer has fewer entries than the largest plan has nodes.
     PlanShort,
-    #[error("there is no plan with this number")]
+    /// The space has no plan with this number.
     NoSuchPlan,
-    #[error("the node's goal is not the one due")]
+    /// The node at the place is for another goal than the one due.
     OtherGoal(usize),
-    #[error("the node is no alternative of the goal due that has a plan")]
+    /// The node at the place is for the goal due, but is no alternative of it that has a plan.
     NoLiveAlternative(usize),
-    #[error("the list ends before the plan is complete")]
+    /// The list ends at the place, where a goal is still due.
     ListEnds(usize),
-    #[error("nodes follow a complete plan")]
+    /// The plan is complete at the place, where a node follows.
     NodesFollow(usize),
-    #[error("the text buffer is shorter than the text")]
+    /// The text does not fit into its buffer.
     TextShort,
 }
 
@@ -64,5 +65,31 @@ impl Refusal {
             Refusal::NodesFollow(place) => Some(place),
             _ => None,
         }
+    }
+
+    /// The refusal in plain words.
+    pub fn reason(self) -> &'static str {
+        match self {
+            Refusal::NoGoals => "the space has no goals",
+            Refusal::TalliesShort => "the tally buffer is shorter than the number of goals",
+            Refusal::TooManyPlans => "some goal has more than 10^18 plans",
+            Refusal::PlansTooLarge => "the largest plan has more than 1,024 nodes",
+            Refusal::WorkShort => "the work buffer is shorter than the largest plan",
+            Refusal::PlanShort => "the plan buffer is shorter than the largest plan",
+            Refusal::NoSuchPlan => "there is no plan with this number",
+            Refusal::OtherGoal(_) => "the node's goal is not the one due",
+            Refusal::NoLiveAlternative(_) =>
+                "the node is no alternative of the goal due that has a plan",
+            Refusal::ListEnds(_) => "the list ends before the plan is complete",
+            Refusal::NodesFollow(_) => "nodes follow a complete plan",
+            Refusal::TextShort => "the text buffer is shorter than the text",
+        }
+    }
+}
+
+/// The reason.
+impl fmt::Display for Refusal {
+    fn fmt<W: fmt::Write>(&self, f: &mut fmt::Formatter<W>) -> fmt::Result {
+        f.write_str(self.reason())
     }
 }

@@ -2,8 +2,9 @@
 
 use crate::failure::Failure;
 use crate::pile::{Pile, Task};
-use crate::room::Room;
 use crate::words::Words;
+use numbering::counting;
+use numbering::tally::Tally;
 use spaces::space::Space;
 
 /// Prints how many plans a space holds and how large the largest is.
@@ -12,8 +13,9 @@ struct Count;
 
 impl Task for Count {
     fn run<S: Space + Drop>(&self, rt: &HostRuntime, space: S) -> Result<(), Failure> {
-        let room = Room::new(rt.alloc(), &space)?;
-        println!(rt; "plans {}\nlargest {}", room.plans, room.largest)?;
+        let mut tallies = vec![in rt.alloc(); Tally::default(); usize::from(space.goals())]?;
+        let (plans, largest) = counting::count(&space, &mut tallies)?;
+        println!(rt; "plans {plans}\nlargest {largest}")?;
         Ok(())
     }
 }

@@ -6,14 +6,15 @@ ghost use Rattle.prepared.specs.declared.refusal.PrepareRefusal.TheVariants.{Cou
 
 use numbering::refusal::Refusal;
 use std::alloc::{AllocError, AllocFailed};
+use std::fmt;
 use thiserror::Error;
 
 /// Why a space is not prepared.
 #[derive(Clone, Copy, PartialEq, Eq, Debug, Error)]
 pub enum PrepareRefusal {
-    #[error("{0}")]
+    /// The space is none that is counted: it has no goals, too many plans or too large ones.
     Count(Refusal),
-    #[error("there is no memory for the tables")]
+    /// There is no memory for the tables.
     NoMemory,
 }
 
@@ -26,6 +27,21 @@ impl PrepareRefusal {
             PrepareRefusal::Count(refusal) => Some(refusal.number()),
             PrepareRefusal::NoMemory => None,
         }
+    }
+
+    /// The refusal in plain words.
+    pub fn reason(self) -> &'static str {
+        match self {
+            PrepareRefusal::Count(refusal) => refusal.reason(),
+            PrepareRefusal::NoMemory => "there is no memory for the tables",
+        }
+    }
+}
+
+/// The reason.
+impl fmt::Display for PrepareRefusal {
+    fn fmt<W: fmt::Write>(&self, f: &mut fmt::Formatter<W>) -> fmt::Result {
+        f.write_str(self.reason())
     }
 }
 

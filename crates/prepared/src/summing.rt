@@ -15,9 +15,10 @@ fn sum_goal(counted: &Tallied<'_, Table>, goal: u16, heap: Global) -> Result<Vec
     requires { goal < (table_space counted.now.space.now).goals }
     ensures { IfOk result (λ sums. sums.items ≡ goal_sums (table_space counted.now.space.now) goal) }
 {
-    let mut sums = Vec::new(heap);
+    let list = counted.space.goal_list(goal);
+    let mut sums = Vec::with_capacity(heap, list.len())?;
     let mut before = 0;
-    for alternative in counted.space.goal_list(goal) {
+    for alternative in list {
         sums.push(before)?;
         before += alternative_count(counted.tallies, *alternative);
     }
@@ -28,7 +29,7 @@ fn sum_goal(counted: &Tallied<'_, Table>, goal: u16, heap: Global) -> Result<Vec
 pub fn sum_goals(counted: &Tallied<'_, Table>, heap: Global) -> Result<Vec<Vec<u64>>, AllocError>
     ensures { IfOk result (λ sums. Summed (table_space counted.now.space.now) (map vec_items sums.items)) }
 {
-    let mut sums = Vec::new(heap);
+    let mut sums = Vec::with_capacity(heap, usize::from(counted.goals()))?;
     for goal in 0..counted.goals() {
         sums.push(sum_goal(counted, goal, heap)?)?;
     }

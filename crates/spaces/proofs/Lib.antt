@@ -1,3 +1,4 @@
 pub mod Filling
+pub mod Keeping
 pub mod Parts
 pub mod Tabling

@@ -1,6 +1,6 @@
--- Places in a list: what is found there, `All` and `Apart` read by places, and what is ahead of a place.
-use Rattle.std.specs.Prelude.{◌≡◌, ℕ, zero, suc, ◌+◌, ◌<◌, ◌≤◌, List, [], ◌∷◌, length, drop, Some, None, Option, ◌≢◌, refl}
-use Rattle.std.proofs.Common.{ap, subst, sym, suc-le-suc, zero-le, add-one, arith}
+-- Places in a list: what is found there, `All` and `Apart` read by places, what is ahead of a place, and the turns of a loop over a list.
+use Rattle.std.specs.Prelude.{◌≡◌, ℕ, zero, suc, ◌+◌, ◌<◌, ◌≤◌, List, [], ◌∷◌, ◌++◌, length, drop, Some, None, Option, ◌≢◌, refl}
+use Rattle.std.proofs.Common.{ap, subst, sym, ◌∙◌, suc-le-suc, zero-le, add-one, append_assoc, append-nil, arith}
 use Rattle.std.specs.List.{AllByRecursion, slice_get}
 use Rattle.spaces.specs.Spaces.{Apart}
 
@@ -42,3 +42,15 @@ apart_nth (x ∷ xs) zero zero a h p q = refl
 apart_nth (x ∷ xs) zero (suc j) a h p q = absurd (all_nth (λ y. x ≢ y) xs j a h.0 q (some_inj p))
 apart_nth (x ∷ xs) (suc i) zero a h p q = absurd (all_nth (λ y. x ≢ y) xs i a h.0 p (some_inj q))
 apart_nth (x ∷ xs) (suc i) (suc j) a h p q = ap suc (apart_nth xs i j a h.1 p q)
+
+pub nth_seam : {X : Type 0} (passed ahead : List X) (x : X) → slice_get (passed ++ (x ∷ ahead)) (length passed) ≡ Some x
+nth_seam [] ahead x = refl
+nth_seam (y ∷ passed) ahead x = nth_seam passed ahead x
+
+-- ---- turns of a loop: what was passed, and what was ahead, are the list
+
+pub went : {X : Type 0} (xs passed before ahead : List X) (x : X) → passed ++ before ≡ xs → before ≡ x ∷ ahead → (passed ++ (x ∷ [])) ++ ahead ≡ xs
+went xs passed before ahead x whole next = append_assoc passed (x ∷ []) ahead ∙ sym (ap (λ ys. passed ++ ys) next) ∙ whole
+
+pub all_passed : {X : Type 0} (xs passed before : List X) → passed ++ before ≡ xs → before ≡ [] → passed ≡ xs
+all_passed xs passed before whole none = sym (append-nil passed) ∙ ap (λ ys. passed ++ ys) (sym none) ∙ whole

@@ -1,5 +1,5 @@
 -- What a plan space means, and the laws of every space.
-use Rattle.std.specs.Prelude.{◌≡◌, ℕ, ◌+◌, ◌<◌, ◌≤◌, List, [], ◌∷◌, length, drop, ◌≢◌}
+use Rattle.std.specs.Prelude.{◌≡◌, ℕ, ◌+◌, ◌<◌, ◌≤◌, List, [], ◌∷◌, ◌++◌, length, take, drop, IfOk, Result, ◌≢◌}
 use Rattle.std.specs.List.{AllByRecursion}
 use Rattle.spaces.specs.declared.space.Alternative.{Alternative}
 use Rattle.spaces.specs.declared.space.Alternatives.{Alternatives}
@@ -32,6 +32,11 @@ pub record Lawful (m : Meaning) : Type 0 where
   pub narrow : (g : ℕ) → length (m.lists g) ≤ 4096 + g
   pub sound : (g : ℕ) → AllByRecursion (Sound g) (m.lists g)
   pub distinct : (g : ℕ) → Apart (m.lists g)
+
+-- What a call leaves of a list that it appends xs to: xs stands behind what stood there, `old`; where memory was short, it still begins with that.
+pub record Appended {E : Type 0} (old now xs : List Alternative) (r : Result (Unit {0}) E) : Type 0 where
+  pub front : take (length old) now ≡ old
+  pub whole : IfOk r (λ _. now ≡ old ++ xs)
 
 -- the alternatives that an iterator over a goal's still has to give
 abbrev pub ahead : {S : Type 0} → (S → Meaning) → Alternatives S → List Alternative

@@ -76,7 +76,8 @@ fn splits(join: Kind, set: u16, heap: Global) -> Result<Vec<Alternative>, AllocE
     requires { 0 < set }
     ensures { IfOk result (λ list. list.items ≡ map (split join set) (range_with_len 0 (2 ^ count_ones set - 2))) }
 {
-    let mut list = Vec::new(heap);
+    let count = (1_usize << set.count_ones()).saturating_sub(2);
+    let mut list = Vec::with_capacity(heap, count)?;
     let mut right = (set - 1) & set;
     while right != 0 {
         list.push(Alternative {

@@ -1,6 +1,6 @@
 //! The alternatives of a goal that pass a test, which a layer keeps in their order.
 
-ghost use Rattle.std.specs.Prelude.{◌≡◌, Bool, length, filter};
+ghost use Rattle.std.specs.Prelude.{◌≡◌, ◌≤◌, Bool, length, filter, Some, MatchResult};
 ghost use Rattle.spaces.specs.declared.space.Alternative.{Alternative};
 ghost use Rattle.std.specs.List.{slice_get};
 
@@ -33,4 +33,28 @@ pub fn kept_at<S: Space, T: Test>(below: &S, test: &T, goal: u16, index: u32) ->
         .alternatives(goal)
         .filter(|alternative| test.passes(*alternative))
         .nth(index as usize)
+}
+
+/// The alternative number `index` among those of a goal that pass the test, or how many pass where there is none: in one search,
+/// for a layer that would otherwise ask for both.
+pub(crate) fn kept_or_width<S: Space, T: Test>(
+    below: &S,
+    test: &T,
+    goal: u16,
+    index: u32,
+) -> Result<Alternative, u32>
+    ensures { MatchResult result
+        (λ alternative. slice_get (filter (T.Test.picks test.now) ((S.Space.meaning below.now).lists goal)) index ≡ Some alternative)
+        (λ width. (width ≡ length (filter (T.Test.picks test.now) ((S.Space.meaning below.now).lists goal))) × (width ≤ index)) }
+{
+    let mut passed = 0;
+    for alternative in below.alternatives(goal) {
+        if test.passes(alternative) {
+            if passed == index {
+                return Ok(alternative);
+            }
+            passed += 1;
+        }
+    }
+    Err(passed)
 }

@@ -4,6 +4,7 @@ ghost use Rattle.std.specs.Prelude.{◌≡◌, ◌<◌, ◌≤◌, MatchOption};
 ghost use Rattle.spaces.specs.Orders.{KeepsOrders, asks, ordered, place};
 ghost use Rattle.spaces.specs.OrdersLemmas.{ordered_lawful};
 
+pub use crate::ordered_goal::Sortable;
 use crate::ordered_goal::{OrderedGoal, placed};
 use crate::space::{Alternative, Space};
 use std::alloc::{AllocError, Global};

@@ -5,7 +5,7 @@ ghost use Rattle.std.specs.List.{AllByRecursion, slice_get};
 ghost use Rattle.spaces.specs.Orders.{Small, in_order, lifted, place, sort_of, sortable};
 ghost use Rattle.spaces.specs.declared.order.Order.TheVariants.{Any, Sorted};
 
-use crate::keep::{Test, kept_at, kept_width};
+use crate::keep::{Test, kept_or_width, kept_width};
 use crate::kind::Kind;
 use crate::order::Order;
 use crate::sorting::{output_is_sorted, wants_left_sorted, wants_right_sorted};
@@ -102,13 +102,11 @@ impl<S: Space> OrderedGoal<'_, S> {
     fn sorted(&self, index: u32) -> Option<Alternative>
         ensures { result ≡ slice_get (in_order Sorted self.now.goal (S.Space.meaning self.now.below.now)) index }
     {
-        let Some(alternative) = kept_at(self.below, &Sortable, self.goal, index) else {
-            if index == kept_width(self.below, &Sortable, self.goal) {
-                return Some(self.sort());
-            }
-            return None;
-        };
-        Some(lift(alternative, true))
+        match kept_or_width(self.below, &Sortable, self.goal, index) {
+            Ok(alternative) => Some(lift(alternative, true)),
+            Err(width) if width == index => Some(self.sort()),
+            Err(_) => None,
+        }
     }
 
     /// The sort of the goal in any order.

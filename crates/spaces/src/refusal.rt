@@ -1,16 +1,17 @@
 ghost use Rattle.std.specs.Prelude.{◌≡◌};
 ghost use Rattle.spaces.specs.Refusals.{number as number_of};
 
+use std::fmt;
 use thiserror::Error;
 
 /// Why a space or a layer is not made.
 #[derive(Clone, Copy, PartialEq, Eq, Debug, Error)]
 pub enum MakeRefusal {
-    #[error("the number of relations is not 1 to 10")]
+    /// The number of relations is not 1 to 10.
     Relations,
-    #[error("the operator is no join")]
+    /// The kind is no join.
     NoJoin,
-    #[error("the mask has a bit that no kind has")]
+    /// The mask has bit 7, which no kind has.
     NoSuchKind,
 }
 
@@ -24,5 +25,21 @@ impl MakeRefusal {
             MakeRefusal::NoJoin => 16,
             MakeRefusal::NoSuchKind => 17,
         }
+    }
+
+    /// The reason in words.
+    pub fn reason(self) -> &'static str {
+        match self {
+            MakeRefusal::Relations => "the number of relations is not 1 to 10",
+            MakeRefusal::NoJoin => "the operator is no join",
+            MakeRefusal::NoSuchKind => "the mask has a bit that no kind has",
+        }
+    }
+}
+
+/// The reason.
+impl fmt::Display for MakeRefusal {
+    fn fmt<W: fmt::Write>(&self, f: &mut fmt::Formatter<W>) -> fmt::Result {
+        f.write_str(self.reason())
     }
 }

@@ -3,7 +3,7 @@
 ghost use Rattle.std.specs.Prelude.{◌≡◌, length, IfOk};
 ghost use Rattle.std.specs.Iterator.{YieldsFirst, item_count};
 ghost use Rattle.std.specs.List.{slice_get};
-ghost use Rattle.spaces.specs.Spaces.{Lawful, Meaning, ahead};
+ghost use Rattle.spaces.specs.Spaces.{Appended, Lawful, Meaning, ahead};
 
 use crate::kind::Kind;
 use std::alloc::{AllocError, Global};
@@ -54,6 +54,15 @@ pub trait Space {
             }
         }
         Ok(list)
+    }
+
+    /// Appends all alternatives of a goal in their order to a list that the caller has. Where memory is short,
+    /// what stood in that list still stands at its front.
+    fn list_into(&self, goal: u16, into: &mut Vec<Alternative>) -> Result<(), AllocError>
+        ensures { Appended into.old.items into.new.items ((meaning self.now).lists goal) result }
+    {
+        let list = self.list(goal, *into.allocator())?;
+        into.extend_from_slice(&list)
     }
 
     /// All alternatives of a goal one by one, in their order.

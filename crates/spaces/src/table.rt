@@ -22,9 +22,12 @@ pub struct Table {
 fn copy_lists<S: Space>(space: &S, heap: Global) -> Result<Vec<Vec<Alternative>>, AllocError>
     ensures { IfOk result (λ lists. held lists.items ≡ map (S.meaning space.now).lists (range_with_len 0 (S.meaning space.now).goals)) }
 {
-    let mut lists = Vec::new(heap);
+    let mut lists = Vec::with_capacity(heap, usize::from(space.goals()))?;
     for goal in 0..space.goals() {
-        lists.push(space.list(goal, heap)?)?;
+        let mut list = space.list(goal, heap)?;
+        // a layer's list has room for what it left out of the list below
+        list.shrink_to_fit();
+        lists.push(list)?;
     }
     Ok(lists)
 }

@@ -1,13 +1,12 @@
 -- The marks due at the end of the part of the buffer that is written.
-use Rattle.std.proofs.Common.{◌≡◌, ℕ, suc, ◌+◌, ◌-◌, ◌<◌, ◌≤◌, Bool, true, false, not, cond, eqb, Option, List, [], ◌∷◌, ◌++◌, length, take, drop, set, sym, refl, ap, ◌∙◌, subst, ⊎_elim, append_assoc, add-one, arith, length-drop, length-set, drop-set-lt}
-use Rattle.std.specs.List.{between, copy_within, position, position_or_len}
-use Rattle.std.specs.Option.{MatchOption}
-use Rattle.std.proofs.lemmas.List.{drop-set, drop-drop, length-take-le, take-take}
+use Rattle.std.proofs.Common.{◌≡◌, ℕ, suc, ◌+◌, ◌-◌, ◌<◌, ◌≤◌, true, false, cond, eqb, List, [], ◌∷◌, ◌++◌, length, get_or, take, drop, set, sym, refl, ap, ◌∙◌, add-one, arith, length-drop, length-set, drop-set-lt}
+use Rattle.std.specs.List.{between}
+use Rattle.std.proofs.lemmas.List.{drop_more, drop-set, drop-drop, length-take-le}
 use Rattle.std.proofs.lemmas.Slice.{between_is}
-use Rattle.std.proofs.lemmas.Bool.{cases_lt, le-ltb, lt-ltb}
+use Rattle.std.proofs.lemmas.Bool.{ne_eqb}
 use Rattle.texts.specs.Layout.{laid, closing, opening, ahead}
 use Rattle.texts.specs.Listed.{flat, headed}
-use Rattle.texts.proofs.Laid.{length_laid, laid_append, laid_is, laid_set, drop_laid}
+use Rattle.texts.proofs.Laid.{length_laid, laid_append, laid_set, drop_laid}
 use Rattle.texts.proofs.Forests.{length_ahead, ahead_leaf, ahead_one, ahead_two}
 
 pub between_set : (t end j c : ℕ) (out : List ℕ) → j < t → between t end (set out j c) ≡ between t end out
@@ -43,45 +42,35 @@ closing_le [] = omega arith
 closing_le (c ∷ s) =
     elim (eqb c 44) as (λ b. suc (length (cond b [] (closing s))) ≤ suc (length s)) [ true ↦ omega arith | false ↦ omega (arith, closing_le s) ]
 
--- how many marks are closing, by the place of the first comma
-abbrev comma : List ℕ → ℕ
-comma s = position_or_len (λ c. eqb c 44) s
+-- the marks up to the first comma, moved one by one: the mark m from t to p
+closing_other : (m : ℕ) (s : List ℕ) → (m ≡ 44 → ⊥) → closing (m ∷ s) ≡ m ∷ closing s
+closing_other m s ne = ap (λ b. m ∷ cond b [] (closing s)) (ne_eqb m 44 ne)
 
-closing_size : (s : List ℕ) → (comma s < length s → length (closing s) ≡ comma s + 1) × (length s ≤ comma s → length (closing s) ≡ length s)
-closing_size [] = (λ h. absurd (omega arith), λ h. refl)
-closing_size (c ∷ s) = pick (eqb c 44) (comma s) (closing_size s)
-  where
-    pick : (b : Bool) (p : ℕ) → (p < length s → length (closing s) ≡ p + 1) × (length s ≤ p → length (closing s) ≡ length s) →
-        (cond (not b) (1 + p) 0 < suc (length s) → suc (length (cond b [] (closing s))) ≡ cond (not b) (1 + p) 0 + 1) × (suc (length s) ≤ cond (not b) (1 + p) 0 → suc (length (cond b [] (closing s))) ≡ suc (length s))
-    pick true p h = (λ l. omega arith, λ l. absurd (omega arith))
-    pick false p h = (λ l. omega (arith, h.0 (omega arith)), λ l. omega (arith, h.1 (omega arith)))
+closing_comma : (m : ℕ) (s : List ℕ) → m ≡ 44 → closing (m ∷ s) ≡ m ∷ []
+closing_comma m s e = ap (λ k. m ∷ cond (eqb k 44) [] (closing s)) e
 
-pub closing_at : (s : List ℕ) (o : Option ℕ) → o ≡ position (λ c. eqb c 44) s → MatchOption o (length s ≡ length (closing s)) (λ i. i + 1 ≡ length (closing s))
-closing_at s o e =
-    let size = closing_size s in
-    subst (λ p. MatchOption p (length s ≡ length (closing s)) (λ i. i + 1 ≡ length (closing s))) (sym e)
-    (⊎_elim
-    (λ (lt : comma s < length s). rw (lt-ltb (comma s) (length s) lt) (sym (size.0 lt)))
-    (λ (le : length s ≤ comma s). rw (le-ltb (comma s) (length s) le) (sym (size.1 le)))
-    (cases_lt (comma s) (length s)))
+between_cons : (t end : ℕ) (out : List ℕ) → t < end → end ≤ length out → between t end out ≡ get_or out t 0 ∷ between (t + 1) end out
+between_cons t end out h w =
+    let e : end - t ≡ suc (end - (t + 1)) = omega arith in
+    ap (λ k. take k (drop t out)) e ∙ ap (take (suc (end - (t + 1)))) (drop_more out t 0 (omega arith))
 
-closing_front : (s : List ℕ) → take (length (closing s)) s ≡ closing s
-closing_front [] = refl
-closing_front (c ∷ s) =
-    ap (λ x. c ∷ x) (elim (eqb c 44) as (λ b. take (length (cond b [] (closing s))) s ≡ cond b [] (closing s)) [ true ↦ refl | false ↦ closing_front s ])
+module _ (p t end m : ℕ) (out new : List ℕ) (lt : t < end) (whole : end ≤ length out) (got : m ≡ get_or out t 0) (set_is : new ≡ set out p m) where
+  here : between t end out ≡ m ∷ between (t + 1) end out
+  here = between_cons t end out lt whole ∙ ap (λ x. x ∷ between (t + 1) end out) (sym got)
 
--- the closing marks, copied
-pub closed_copy : (at top end n : ℕ) (out : List ℕ) → at ≤ top → top ≤ end → end ≤ length out → n ≡ length (closing (between top end out)) →
-    copy_within out top (top + n) at ≡ laid at (closing (between top end out)) out
-closed_copy at top end n out apart within whole count =
-    let s = between top end out in
-    let fits : length (closing s) ≤ end - top = omega (arith, closing_le s, length_between_in top end out within whole) in
-    let size : top + n - top ≡ length (closing s) = omega arith in
-    let part : take (length (closing s)) (drop top out) ≡ closing s = sym (take-take (length (closing s)) (end - top) (drop top out) fits) ∙ closing_front s in
-    ap (λ k. take at out ++ take k (drop top out) ++ drop (at + k) out) size
-    ∙ ap (λ x. take at out ++ x ++ drop (at + length (closing s)) out) part
-    ∙ append_assoc (take at out) (closing s) (drop (at + length (closing s)) out)
-    ∙ sym (laid_is at (closing s) out (omega arith))
+  pub close_more : p ≤ t → (m ≡ 44 → ⊥) →
+      (length (closing (between t end out)) ≡ suc (length (closing (between (t + 1) end new))))
+      × (laid (p + 1) (closing (between (t + 1) end new)) new ≡ laid p (closing (between t end out)) out)
+  close_more le other =
+      let rest : between (t + 1) end new ≡ between (t + 1) end out = ap (between (t + 1) end) set_is ∙ between_set (t + 1) end p m out (omega arith) in
+      let all : closing (between t end out) ≡ m ∷ closing (between (t + 1) end new) =
+      ap closing here ∙ closing_other m (between (t + 1) end out) other ∙ ap (λ s. m ∷ closing s) (sym rest) in
+      (ap length all, ap (λ k. laid k (closing (between (t + 1) end new)) new) (add-one p) ∙ ap (laid (suc p) (closing (between (t + 1) end new))) set_is ∙ sym (ap (λ s. laid p s out) all))
+
+  pub close_comma : m ≡ 44 → (length (closing (between t end out)) ≡ 1) × (new ≡ laid p (closing (between t end out)) out)
+  close_comma comma =
+      let all : closing (between t end out) ≡ m ∷ [] = ap closing here ∙ closing_comma m (between (t + 1) end out) comma in
+      (ap length all, set_is ∙ sym (ap (λ s. laid p s out) all))
 
 -- one node: lab is its own part, and ts are the texts ahead of it
 pub leaf_same : (lab out o1 new : List ℕ) (ts : List (List ℕ)) (i next top end k : ℕ) →

@@ -1,9 +1,9 @@
 -- Numerals, digit by digit from the last.
-use Rattle.std.proofs.Common.{◌≡◌, ℕ, zero, suc, ◌+◌, ◌-◌, ◌*◌, ◌/◌, ◌%◌, ◌^◌, ◌<◌, ◌≤◌, List, length, take, set, decimal, sym, ap, ◌∙◌, ⊎_elim, zero-lt-suc, pow-suc, arith}
+use Rattle.std.proofs.Common.{◌≡◌, ℕ, zero, suc, ◌+◌, ◌*◌, ◌/◌, ◌%◌, ◌^◌, ◌<◌, ◌≤◌, List, length, set, decimal, sym, ap, ◌∙◌, ⊎_elim, zero-lt-suc, pow-suc, arith}
 use native.Mathlib.Nat.{pow-le-pow_right}
-use Rattle.std.proofs.lemmas.Fmt.{decimal_digit, decimal_step, length-decimal-le}
+use Rattle.std.proofs.lemmas.Fmt.{decimal_digit, decimal_nonempty, decimal_step, length-decimal-le}
 use Rattle.std.proofs.lemmas.Bool.{cases_lt}
-use Rattle.std.proofs.lemmas.List.{length_push, take_all}
+use Rattle.std.proofs.lemmas.List.{length_push}
 use Rattle.texts.specs.Layout.{laid}
 use Rattle.texts.proofs.Laid.{laid_push}
 
@@ -28,25 +28,22 @@ size_log (suc k) n low high h =
     let some : 10 ^ 0 ≤ 10 ^ k = pow-le-pow_right (zero-lt-suc 9) from in
     omega (arith, size_step n (omega arith) h, size_log k (n / 10) (omega arith) (omega arith) (omega arith))
 
--- the last digit of what is left is written at j, and the others have room before it
-module _ (n i j : ℕ) (out : List ℕ) (small : n < 2 ^ 64) (room : j + 1 ≡ i + length (decimal n)) where
-  pub digits_left : i < j → j ≡ i + length (decimal (n / 10))
-  digits_left h =
-      ⊎_elim (λ (lt : n < 10). absurd (omega (arith, size_one n lt))) (λ (le : 10 ≤ n). omega (arith, size_step n le small)) (cases_lt n 10)
+-- whether more than one digit is left
+pub more_left : (n : ℕ) → 1 < length (decimal n) → 10 ≤ n
+more_left n h = ⊎_elim (λ (lt : n < 10). absurd (omega (arith, size_one n lt))) (λ (le : 10 ≤ n). le) (cases_lt n 10)
 
-  pub digit_laid : laid i (take (j - i) (decimal (n / 10))) (set out j (48 + n % 10)) ≡ laid i (decimal n) out
-  digit_laid =
-      ⊎_elim
-      (λ (lt : n < 10).
-      let here : j ≡ i = omega (arith, size_one n lt) in
-      let none : j - i ≡ 0 = omega arith in
-      let digit : n % 10 ≡ n = omega arith in
-      ap (λ k. laid i (take k (decimal (n / 10))) (set out j (48 + n % 10))) none
-      ∙ ap (λ k. set out k (48 + n % 10)) here ∙ ap (λ d. set out i (48 + d)) digit ∙ sym (ap (λ ds. laid i ds out) (decimal_digit n lt)))
-      (λ (le : 10 ≤ n).
-      let all : i + length (decimal (n / 10)) ≡ j = omega (arith, size_step n le small) in
-      ap (λ ds. laid i ds (set out j (48 + n % 10))) (take_all (j - i) (decimal (n / 10)) (omega arith))
-      ∙ sym (ap (λ ds. laid i ds out) (decimal_step n le small)
-      ∙ laid_push i (decimal (n / 10)) out (48 + n % 10)
-      ∙ ap (λ k. laid i (decimal (n / 10)) (set out k (48 + n % 10))) all))
-      (cases_lt n 10)
+pub one_left : (n : ℕ) → n < 2 ^ 64 → length (decimal n) ≤ 1 → n < 10
+one_left n small h =
+    ⊎_elim (λ (lt : n < 10). lt) (λ (le : 10 ≤ n). absurd (omega (arith, size_step n le small, decimal_nonempty (n / 10) (omega arith)))) (cases_lt n 10)
+
+-- the last digit of what is left is written at j
+pub laid_digit : (n i j : ℕ) (out : List ℕ) → 10 ≤ n → n < 2 ^ 64 → j + 1 ≡ i + length (decimal n) →
+    laid i (decimal (n / 10)) (set out j (48 + n % 10)) ≡ laid i (decimal n) out
+laid_digit n i j out ten h e =
+    let f : i + length (decimal (n / 10)) ≡ j = omega (arith, size_step n ten h) in
+    sym (ap (λ ds. laid i ds out) (decimal_step n ten h)
+    ∙ laid_push i (decimal (n / 10)) out (48 + n % 10)
+    ∙ ap (λ k. laid i (decimal (n / 10)) (set out k (48 + n % 10))) f)
+
+pub laid_leading : (n i : ℕ) (out : List ℕ) → n < 10 → set out i (48 + n) ≡ laid i (decimal n) out
+laid_leading n i out h = sym (ap (λ ds. laid i ds out) (decimal_digit n h))

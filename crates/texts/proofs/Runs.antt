@@ -1,29 +1,37 @@
 -- Numerals in a text: one without needless zeros that no digit follows is read in one way.
-use Rattle.std.proofs.Common.{◌≡◌, ℕ, zero, suc, ◌+◌, ◌-◌, ◌*◌, ◌<◌, ◌≤◌, Bool, true, false, cond, List, [], ◌∷◌, ◌++◌, length, get_or, take, drop, Some, None, Ok, Err, Result, decimal, sym, refl, ap, ◌∙◌, subst, one-add, arith, length-drop, take-append-drop, rules}
-use Rattle.std.proofs.lemmas.Fmt.{decimal_digit, decimal_nonempty, decimal-digits_value, digits_decimal, first_decimal, IsAscii-from_digits, decimal_injective, digits_value-decimal}
+use Rattle.std.proofs.Common.{◌≡◌, ℕ, zero, suc, ◌+◌, ◌-◌, ◌*◌, ◌^◌, ◌<◌, ◌≤◌, Bool, true, false, cond, List, [], ◌∷◌, ◌++◌, length, get_or, take, drop, Some, None, Option, decimal, sym, refl, ap, ◌∙◌, subst, one-add, arith, length-drop, take-append-drop}
+use Rattle.std.proofs.lemmas.Fmt.{decimal_digit, decimal_nonempty, decimal-digits_value, digits_decimal, first_decimal, decimal_injective, digits_value-decimal}
 use Rattle.std.proofs.lemmas.List.{drop-drop}
 use Rattle.std.proofs.lemmas.List.Sums.{prefix_len-le-length}
-use Rattle.std.proofs.lemmas.Str.{IsUtf8-from_ascii}
-use Rattle.std.proofs.lemmas.Str.Parse.{IsNumeralModel, numerals_by_fold, parse_digits}
+use Rattle.std.proofs.lemmas.Str.Parse.{IsNumeralModel, digit_at, numerals_by_value, tells_all_ascii_digits}
 use Rattle.std.proofs.lemmas.Bool.{and_from, and_parts}
+use Rattle.std.proofs.lemmas.Bool.Decides.{nat_tests}
+use Rattle.std.proofs.lemmas.Int.Digits.{digits_value_more}
 use Rattle.std.specs.List.{between, prefix_len}
-use Rattle.std.specs.Option.{MatchOption}
-use Rattle.std.specs.Result.{result_ok}
-use Rattle.std.specs.Str.{IsUtf8, all_ascii_digits}
-use Rattle.std.specs.Str.Parse.{ParsesUnsigned}
-use Rattle.std.specs.Char.{is_ascii_digit}
+use Rattle.std.specs.Option.{MatchOption, SomeIff}
+use Rattle.std.specs.Str.{all_ascii_digits}
+use Rattle.std.specs.Str.Parse.{digits_value}
+use Rattle.std.specs.Char.{digit_value, is_ascii_digit}
+use Rattle.std.specs.Int.{IsInRange}
 use Rattle.texts.specs.Parts.{NoDigit, NumberAt, Run, Stands}
 
--- the number that digits write, after n
-abbrev read_on : ℕ → List ℕ → ℕ
-read_on n [] = n
-read_on n (c ∷ cs) = read_on (10 * n + (c - 48)) cs
-
-own : IsNumeralModel (λ ds. all_ascii_digits ds ≡ true) (read_on 0)
-own = numerals_by_fold _ (search rules) read_on (search rules)
+own : IsNumeralModel (λ ds. all_ascii_digits ds ≡ true) (digits_value 10)
+own = numerals_by_value _ tells_all_ascii_digits
 
 pub clash : {R : Type 0} (b : Bool) → b ≡ true → b ≡ false → R
 clash b e f = let z : ◌≡◌ {A = ℕ} 1 0 = ap (λ x. cond x 1 0) (sym e ∙ f) in absurd (omega arith)
+
+-- ---- what digits write
+
+pub digit_in : (ds : List ℕ) (i : ℕ) → all_ascii_digits ds ≡ true → i < length ds → IsInRange 48 57 (get_or ds i 0)
+digit_in ds i all h = digit_at ds i (own.to ds all) h
+
+pub value_more : (ds : List ℕ) (i n : ℕ) → all_ascii_digits ds ≡ true → i < length ds → n ≡ digits_value 10 (take i ds) →
+    n * 10 + (get_or ds i 0 - 48) ≡ digits_value 10 (take (i + 1) ds)
+value_more ds i n all h is =
+    let digit = digit_in ds i all h in
+    let worth : digit_value (get_or ds i 0) ≡ get_or ds i 0 - 48 = grind (arith, nat_tests) in
+    omega (arith, digits_value_more 10 ds i h)
 
 -- ---- digits that no digit follows end in one place
 
@@ -96,34 +104,32 @@ module _ (bytes ds : List ℕ) (i e : ℕ) (r : Run bytes i e) (is : ds ≡ betw
   all_digits : all_ascii_digits ds ≡ true
   all_digits = ap all_ascii_digits is ∙ r.digits
 
-  pub digits_utf8 : IsUtf8 ds
-  digits_utf8 = IsUtf8-from_ascii ds (IsAscii-from_digits ds (own.to ds all_digits))
-
   -- a numeral is all digits of its run
   run_is : (f n : ℕ) → n < 65536 → Stands (decimal n) bytes i f → (ds ≡ decimal n) × (e ≡ f)
   run_is f n h s =
       let both = one_split (between i e bytes) (decimal n) (drop e bytes) (drop f bytes) r.digits (decimal_digits n h) r.ends s.ends (sym (drop_between i e bytes r.from) ∙ s.is) in
       (is ∙ both.front, same_end e f bytes r.to s.to both.back)
 
-  -- no number where there is a needless zero
+  -- no number where there is no digit, or a needless zero
+  pub number_empty : length ds ≡ 0 → NumberAt bytes i None
+  number_empty none n f h s = omega (arith, decimal_nonempty n (omega arith), ap length (run_is f n h s).0)
+
   pub number_zero : get_or ds 0 0 ≡ 48 → 1 < length ds → NumberAt bytes i None
   number_zero first long n f h s =
       let all = (run_is f n h s).0 in
       omega (arith, zero_first n h (sym (ap (λ xs. get_or xs 0 0) all) ∙ first), ap length all)
 
-  -- else there is one where it can be parsed
-  pub number_parsed : {E : Type 0} (p : Result ℕ E) → (get_or ds 0 0 ≡ 48 → length ds ≤ 1) → ParsesUnsigned 16 10 ds p →
-      MatchOption (result_ok p) (NumberAt bytes i None) (λ n. NumberAt bytes i (Some (n, e)))
-  number_parsed {E} (Ok n) plain parsed =
-      let given = parse_digits own {E = E} 16 ds (Ok n) parsed all_digits in
-      let same : decimal n ≡ ds = ap decimal given.1 ∙ decimal-digits_value own ds all_digits given.0.0 (λ z. omega (arith, plain z, given.0.0)) (omega (arith, given.0.1)) in (
+  -- else the one that the digits write, if it fits
+  pub number_fits : (v : Option ℕ) → 0 < length ds → (get_or ds 0 0 ≡ 48 → length ds ≤ 1) → SomeIff v (digits_value 10 ds < 2 ^ 16) (digits_value 10 ds) →
+      MatchOption v (NumberAt bytes i None) (λ n. NumberAt bytes i (Some (n, e)))
+  number_fits (Some n) some plain fits =
+      let same : decimal n ≡ ds = ap decimal fits.1 ∙ decimal-digits_value own ds all_digits some (λ z. omega (arith, plain z, some)) (omega (arith, fits.0)) in (
         record { to = r.to; is = drop_between i e bytes r.from ∙ ap (λ x. x ++ drop e bytes) (sym (same ∙ is)); ends = r.ends },
-        omega (arith, given.0.1, given.1),
+        omega (arith, fits.0, fits.1),
       )
-  number_parsed {E} (Err err) plain parsed = λ n f h s.
-      let all = (run_is f n h s).0 in
-      let value : read_on 0 ds ≡ n = ap (read_on 0) all ∙ digits_value-decimal own n (omega arith) in
-      parse_digits own {E = E} 16 ds (Err err) parsed all_digits (omega (arith, decimal_nonempty n (omega arith), ap length all), omega arith)
+  number_fits None some plain large = λ n f h s.
+      let value : digits_value 10 ds ≡ n = ap (digits_value 10) (run_is f n h s).0 ∙ digits_value-decimal own n (omega arith) in
+      large (omega arith)
 
 pub one_number : (bytes : List ℕ) (i e f a b : ℕ) → a < 65536 → b < 65536 → Stands (decimal a) bytes i e → Stands (decimal b) bytes i f → (a ≡ b) × (e ≡ f)
 one_number bytes i e f a b ha hb s t =

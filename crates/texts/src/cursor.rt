@@ -1,8 +1,10 @@
 //! A text as it is read: bytes, numbers, and nodes' own parts.
 
-ghost use Rattle.std.specs.Prelude.{◌≡◌, ◌+◌, ◌≤◌, ◌∷◌, drop, length, if◌then◌else◌, None, Some, MatchOption, OnSome};
+ghost use Rattle.std.specs.Prelude.{◌≡◌, ◌+◌, ◌^◌, ◌<◌, ◌≤◌, ◌∷◌, true, drop, length, if◌then◌else◌, None, Some, MatchOption, OnSome, SomeIff};
 ghost use Rattle.std.specs.Char.{is_ascii_digit};
 ghost use Rattle.std.specs.List.{between, prefix_len};
+ghost use Rattle.std.specs.Str.{all_ascii_digits};
+ghost use Rattle.std.specs.Str.Parse.{digits_value};
 ghost use Rattle.texts.specs.Parts.{LabelAt, NumberAt, Run, byte_at};
 
 use numbering::node::Node;
@@ -18,6 +20,18 @@ fn digit_count(bytes: &[u8]) -> usize
         .iter()
         .take_while(|byte| byte.is_ascii_digit())
         .count()
+}
+
+/// The number that digits write, if it fits 16 bits.
+fn value(digits: &[u8]) -> Option<u16>
+    requires { all_ascii_digits digits.now ≡ true }
+    ensures { SomeIff result (digits_value 10 digits.now < 2 ^ 16) (digits_value 10 digits.now) }
+{
+    let mut number: u16 = 0;
+    for digit in digits {
+        number = number.checked_mul(10)?.checked_add((*digit - b'0') as u16)?;
+    }
+    Some(number)
 }
 
 /// A text, and the place up to which it has been read.
@@ -83,10 +97,13 @@ impl<'t> Cursor<'t> {
             (λ n. NumberAt self.old.text.now self.old.at (Some (n, self.new.at))) }
     {
         let digits = self.digits();
+        if digits.is_empty() {
+            return None;
+        }
         if digits.len() > 1 && digits[0] == b'0' {
             return None;
         }
-        str::from_utf8(digits).ok()?.parse().ok()
+        value(digits)
     }
 
     /// Passes the own part of a node: letter, tag, `@` and goal. Its children's goals are 0.

@@ -6,8 +6,9 @@ ghost use Rattle.std.specs.Prelude.{◌≡◌, length, decimal};
 pub(crate) fn digits(number: u64) -> usize
     ensures { result ≡ length (decimal number) }
 {
-    match number.checked_ilog10() {
-        Some(log) => log as usize + 1,
-        None => 1,
+    // Most numerals have one digit, and a logarithm takes longer than this test.
+    if number < 10 {
+        return 1;
     }
+    number.ilog10() as usize + 1
 }

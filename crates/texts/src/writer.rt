@@ -21,17 +21,6 @@ pub(crate) struct Writer<'a> {
     pub(crate) at: usize,
 }
 
-/// How many of the marks due a leaf lets out: those up to the first comma.
-fn closing_count(marks: &[u8]) -> usize
-    ensures value { result ≡ length (closing marks.now) }
-    ensures within { result ≤ length marks.now }
-{
-    match marks.iter().position(|mark| *mark == b',') {
-        Some(index) => index + 1,
-        None => marks.len(),
-    }
-}
-
 impl<'a> Writer<'a> {
     ghost use Rattle.texts.specs.Writers.{HasSpace, Writes};
 
@@ -56,13 +45,20 @@ impl<'a> Writer<'a> {
         requires { HasSpace self.old (decimal number) }
         ensures { Writes self.old self.new (decimal number) }
     {
+        // Most numerals have one digit.
+        if number < 10 {
+            self.byte(b'0' + number as u8);
+            return;
+        }
         let end = self.at + digits(number);
         let mut left = number;
-        // by index, since no proof knows what a loop over `iter_mut().rev()` has written
-        for index in (self.at..end).rev() {
+        // By index, since no proof knows what a loop over `iter_mut().rev()` has written.
+        for index in (self.at + 1..end).rev() {
             self.out[index] = b'0' + (left % 10) as u8;
             left /= 10;
         }
+        // The leading digit needs no division.
+        self.out[self.at] = b'0' + left as u8;
         self.at = end;
     }
 
@@ -87,11 +83,15 @@ impl<'a> Writer<'a> {
         ensures short { top + result ≤ end }
         ensures bytes { Writes self.old self.new (closing (between top end self.old.out.now)) }
     {
-        let out = &mut *self.out;
-        let count = closing_count(&out[top..end]);
-        out.copy_within(top..top + count, self.at);
-        self.at += count;
-        count
+        // One by one, since they are few.
+        for moved in 0..end - top {
+            let mark = self.out[top + moved];
+            self.byte(mark);
+            if mark == b',' {
+                return moved + 1;
+            }
+        }
+        end - top
     }
 
     /// Writes a node, where the marks due stand from `top` to `end`, and gives where they begin then.
@@ -117,9 +117,9 @@ impl<'a> Writer<'a> {
         top - 2
     }
 
-    /// Writes the text of a list, which is `len` bytes long.
+    /// Writes the nodes of a list one by one, whose text is `len` bytes long.
     #[tactic(auto, using(crate::proofs::Forests::length_text, crate::proofs::Turns::size_more, crate::proofs::Turns::text_start))]
-    pub(crate) fn text(&mut self, nodes: &[Node], len: usize)
+    fn nodes(&mut self, nodes: &[Node], len: usize)
         requires len { len ≡ length (text_of nodes.now) }
         requires room { HasSpace self.old (text_of nodes.now) }
         ensures { Writes self.old self.new (text_of nodes.now) }
@@ -131,6 +131,21 @@ impl<'a> Writer<'a> {
         }
         // The marks of a list that is no plan's may be left over: they stand where they belong.
         self.at = end;
+    }
+
+    /// Writes the text of a list, which is `len` bytes long.
+    pub(crate) fn text(&mut self, nodes: &[Node], len: usize)
+        requires len { len ≡ length (text_of nodes.now) }
+        requires room { HasSpace self.old (text_of nodes.now) }
+        ensures { Writes self.old self.new (text_of nodes.now) }
+    {
+        // By a writer of its own, whose place can stay in a register.
+        let mut writer = Writer {
+            out: &mut *self.out,
+            at: self.at,
+        };
+        writer.nodes(nodes, len);
+        self.at = writer.at;
     }
 
     /// Writes the line of a plan.

@@ -8,7 +8,7 @@ use Rattle.prepared.proofs.summing.sum_goal.Goals as goal
 pub alternative_count-before-requires : goal.alternative_count-before-requires
 alternative_count-before-requires c =
     let t = c.args.counted.now in
-    ways_few (table_space t.space.now) t.space.now.lawful t.tallies.now t.standing c.args.goal c.requires _ c.goal_list-alternative-items.ensures c.loop-alternative.alternative-index c.loop-alternative-test.true _
+    ways_few (table_space t.space.now) t.space.now.lawful t.tallies.now t.standing c.args.goal c.requires _ c.goal_list-list.ensures c.loop-alternative.alternative-index c.loop-alternative-test.true _
 
 pub overflow_add-before : goal.overflow_add-before
 overflow_add-before c =
@@ -16,7 +16,7 @@ overflow_add-before c =
     omega (
       arith,
       c.loop-alternative.invariant.1,
-      sum_few (table_space t.space.now) t.space.now.lawful t.tallies.now t.standing c.args.goal c.requires _ c.goal_list-alternative-items.ensures c.loop-alternative.alternative-index
+      sum_few (table_space t.space.now) t.space.now.lawful t.tallies.now t.standing c.args.goal c.requires _ c.goal_list-list.ensures c.loop-alternative.alternative-index
           c.loop-alternative-test.true _ c.alternative_count-before.result c.alternative_count-before.ensures,
     )
 
@@ -31,6 +31,6 @@ loop-alternative-preserved c =
       omega (
         arith,
         c.loop-alternative.invariant.1,
-        sum_next m t.space.now.lawful t.tallies.now t.standing c.args.goal c.requires _ c.goal_list-alternative-items.ensures i c.loop-alternative-test.true _ c.alternative_count-before.result c.alternative_count-before.ensures,
+        sum_next m t.space.now.lawful t.tallies.now t.standing c.args.goal c.requires _ c.goal_list-list.ensures i c.loop-alternative-test.true _ c.alternative_count-before.result c.alternative_count-before.ensures,
       ),
     )

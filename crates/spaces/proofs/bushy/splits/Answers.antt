@@ -4,7 +4,7 @@ use Rattle.spaces.proofs.Parts.{splitting_end, splitting_more, splitting_start}
 use Rattle.spaces.proofs.bushy.splits.Goals as goal
 
 pub loop-right-init : goal.loop-right-init
-loop-right-init c = rw c.new-list.ensures.items (splitting_start c.args.join c.args.set c.requires (omega arith))
+loop-right-init c = rw c.in_ok-list.ensures.items (splitting_start c.args.join c.args.set c.requires (omega arith))
 
 pub loop-right-smaller : goal.loop-right-smaller
 loop-right-smaller c = omega (arith, and_le_l (c.loop-right.right - 1) c.args.set, c.loop-right-test.true)

@@ -9,6 +9,6 @@ loop-goal-preserved g c =
     let lists = (g.S.Space.meaning c.args.space.now).lists in
     let goal = c.loop-goal.goal in
     ap held c.in_ok-push.ensures.items
-    ∙ map-append _ c.loop-goal.lists.items (c.in_ok-list.field-0 ∷ [])
-    ∙ (λ i. c.loop-goal.invariant i ++ (c.in_ok-list.ensures i ∷ []))
+    ∙ map-append _ c.loop-goal.lists.items (c.shrink_to_fit.new.self ∷ [])
+    ∙ (λ i. c.loop-goal.invariant i ++ ((c.shrink_to_fit.ensures.items ∙ c.in_ok-list.ensures) i ∷ []))
     ∙ sym (map-range_with_len_more lists 0 goal goal (omega arith))

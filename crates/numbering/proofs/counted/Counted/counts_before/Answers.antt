@@ -1,10 +1,10 @@
 use Rattle.std.proofs.Common.{rules, ◌≡◌, ◌≢◌, length, refl, ap, ◌∙◌, subst, arith}
 use Rattle.std.specs.List.{slice_get}
 use Rattle.spaces.specs.declared.space.Alternative.{Alternative}
-use Rattle.spaces.specs.Places.{all_nth}
+use Rattle.spaces.specs.Places.{all_nth, all_passed, went}
 use Rattle.numbering.specs.Standing.{Before}
 use Rattle.numbering.proofs.Standings.{before_told}
-use Rattle.numbering.proofs.Turns.{Turn, all_passed, all_push, turn, went}
+use Rattle.numbering.proofs.Turns.{Turn, all_push, turn}
 use Rattle.numbering.proofs.counted.Counted.counts_before.Given as given
 use Rattle.numbering.proofs.counted.Counted.counts_before.Goals as goal
 use Rattle.numbering.proofs.counted.Counted.counts_before.Goals.{In-Some}

@@ -1,7 +1,8 @@
 use Rattle.std.proofs.Common.{length, ap, arith}
+use Rattle.spaces.specs.Places.{all_passed, went}
 use Rattle.numbering.specs.Plans.{all_ways, count}
 use Rattle.numbering.proofs.Counts.{count_goal}
-use Rattle.numbering.proofs.Turns.{Turn, all_passed, turn, went}
+use Rattle.numbering.proofs.Turns.{Turn, turn}
 use Rattle.numbering.proofs.counted.Counted.pick.Given as given
 use Rattle.numbering.proofs.counted.Counted.pick.Goals as goal
 use Rattle.numbering.proofs.counted.Counted.pick.Goals.{In-Some}

@@ -1,4 +1,4 @@
-use Rattle.std.proofs.Common.{◌≡◌, ◌+◌, ◌-◌, ◌^◌, ◌<◌, length, take, decimal}
+use Rattle.std.proofs.Common.{◌≡◌, ◌+◌, ◌^◌, ◌<◌, length, decimal}
 use Rattle.texts.specs.Layout.{laid}
 use Rattle.texts.proofs.writer.Writer.decimal.Given as goal
 
@@ -8,6 +8,6 @@ invariant-loop-index l = record {
   at : l.self.at ≡ l.initial.self.at;
   long : length l.self.out.now ≡ length l.initial.self.out.now;
   small : l.left < 2 ^ 64;
-  room : l.self.at < l.index → l.index ≡ l.self.at + length (decimal l.left);
-  same : laid l.self.at (take (l.index - l.self.at) (decimal l.left)) l.self.out.now ≡ laid l.self.at (decimal l.number) l.initial.self.out.now;
+  left : l.index ≡ l.self.at + length (decimal l.left);
+  same : laid l.self.at (decimal l.left) l.self.out.now ≡ laid l.self.at (decimal l.number) l.initial.self.out.now;
 }

@@ -1,6 +1,6 @@
 use Rattle.std.proofs.Common.{◌+◌, ◌∙◌, arith}
 use Rattle.texts.proofs.Turns.{text_ends, text_more}
-use Rattle.texts.proofs.writer.Writer.text.Goals as goal
+use Rattle.texts.proofs.writer.Writer.nodes.Goals as goal
 
 pub loop-node-preserved : goal.loop-node-preserved
 loop-node-preserved c =

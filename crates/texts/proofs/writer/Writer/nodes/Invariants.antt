@@ -2,7 +2,7 @@ use Rattle.std.proofs.Common.{◌≡◌, ◌+◌, ◌≤◌, drop, length}
 use Rattle.std.specs.List.{between}
 use Rattle.texts.specs.Layout.{ahead, laid, text_size}
 use Rattle.texts.specs.Listed.{text, texts}
-use Rattle.texts.proofs.writer.Writer.text.Given as goal
+use Rattle.texts.proofs.writer.Writer.nodes.Given as goal
 
 abbrev pub invariant-loop-node : goal.invariant-loop-node
 invariant-loop-node l = record {
