@@ -3,7 +3,7 @@ use Rattle.std.proofs.Common.{◌≡◌, ℕ, ◌+◌, ◌<◌, ◌≤◌, List,
 use Rattle.std.proofs.Math.Seq.{take-append_seam}
 use Rattle.std.specs.List.{AllByRecursion, slice_get}
 use Rattle.spaces.specs.declared.space.Alternative.{Alternative}
-use Rattle.spaces.specs.Places.{nth_seam}
+use Rattle.spaces.specs.Places.{turn_at}
 use Rattle.spaces.specs.Spaces.{Lawful, Meaning}
 use Rattle.numbering.specs.declared.tally.Tally.{Tally}
 use Rattle.numbering.specs.Plans.{all_ways, count, ways}
@@ -22,10 +22,6 @@ pub all_push : {X : Type 0} (P : X → Type 0) (xs : List X) (x : X) → AllByRe
 all_push P [] x all h = (h, tt)
 all_push P (y ∷ xs) x all h = (all.0, all_push P xs x all.1 h)
 
--- the next of a list, where it was ahead
-found : {X : Type 0} (xs passed before ahead : List X) (x : X) → passed ++ before ≡ xs → before ≡ x ∷ ahead → slice_get xs (length passed) ≡ Some x
-found xs passed before ahead x whole next = ap (λ ys. slice_get ys (length passed)) (sym whole ∙ ap (λ ys. passed ++ ys) next) ∙ nth_seam passed ahead x
-
 passed_is : {X : Type 0} (xs passed before : List X) → passed ++ before ≡ xs → take (length passed) xs ≡ passed
 passed_is xs passed before whole = ap (take (length passed)) (sym whole) ∙ take-append_seam passed before
 
@@ -42,7 +38,7 @@ pub record Turn (m : Meaning) (ts : List Tally) (g : ℕ) (passed : List Alterna
 pub turn : (m : Meaning) (law : Lawful m) (ts : List Tally) (g : ℕ) (passed before ahead : List Alternative) (a : Alternative) → Standing m ts → g < m.goals →
     passed ++ before ≡ m.lists g → before ≡ a ∷ ahead → Turn m ts g passed a
 turn m law ts g passed before ahead a up h whole next =
-    let at = found (m.lists g) passed before ahead a whole next in
+    let at = turn_at (m.lists g) passed before ahead a whole next in
     let n = length passed in
     let front = ap (all_ways (count m)) (passed_is (m.lists g) passed before whole) in
     record {

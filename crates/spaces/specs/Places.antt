@@ -49,6 +49,9 @@ nth_seam (y ∷ passed) ahead x = nth_seam passed ahead x
 
 -- ---- turns of a loop: what was passed, and what was ahead, are the list
 
+pub turn_at : {X : Type 0} (xs passed before ahead : List X) (x : X) → passed ++ before ≡ xs → before ≡ x ∷ ahead → slice_get xs (length passed) ≡ Some x
+turn_at xs passed before ahead x whole next = ap (λ ys. slice_get ys (length passed)) (sym whole ∙ ap (λ ys. passed ++ ys) next) ∙ nth_seam passed ahead x
+
 pub went : {X : Type 0} (xs passed before ahead : List X) (x : X) → passed ++ before ≡ xs → before ≡ x ∷ ahead → (passed ++ (x ∷ [])) ++ ahead ≡ xs
 went xs passed before ahead x whole next = append_assoc passed (x ∷ []) ahead ∙ sym (ap (λ ys. passed ++ ys) next) ∙ whole
 

@@ -48,13 +48,16 @@ pub(crate) fn kept_or_width<S: Space, T: Test>(
         (λ width. (width ≡ length (filter (T.Test.picks test.now) ((S.Space.meaning below.now).lists goal))) × (width ≤ index)) }
 {
     let mut passed = 0;
+    let mut place = 0;
     for alternative in below.alternatives(goal) {
         if test.passes(alternative) {
             if passed == index {
-                return Ok(alternative);
+                // asked for again, so that of the others no more is worked out than the test reads
+                return below.alternative(goal, place).ok_or(passed);
             }
             passed += 1;
         }
+        place += 1;
     }
     Err(passed)
 }

@@ -8,3 +8,4 @@ invariant-loop-alternative g l =
     (l.yielded ++ ahead m l.alternative-iterator ≡ (m l.below).lists l.goal)
     × (l.passed ≡ length (filter (g.T.Test.picks l.test) l.yielded))
     × (l.passed ≤ l.index)
+    × (l.place ≡ length l.yielded)
