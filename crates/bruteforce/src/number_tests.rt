@@ -74,7 +74,7 @@ fn misfit(due: Option<u16>, node: Option<Node>, place: usize) -> Option<Refusal>
 }
 
 /// The number of a list, or why it is no plan, by comparing it with every plan: the longest common beginning, and the goal that follows it there.
-fn wanted(list: &[Node], plans: &[Vec<Node>], root: u16) -> Result<u64, Refusal> {
+pub fn wanted(list: &[Node], plans: &[Vec<Node>], root: u16) -> Result<u64, Refusal> {
     let mut place = 0;
     let mut due = Some(root);
     for plan in plans {
@@ -153,8 +153,23 @@ fn swapped(node: Node) -> Node {
     }
 }
 
-/// Every beginning of a plan, the plan with a node more, and the plan with one node changed.
-fn lists_near<S: Space>(
+/// Every beginning of a plan, the plan with one node changed, and the plan with a node more.
+pub fn lists_near(heap: Global, plan: &[Node]) -> Result<Vec<Vec<Node>>, AllocError> {
+    let mut lists = Vec::new(heap);
+    for at in 0..plan.len() {
+        lists.push(plan[0..at].to_vec(heap)?)?;
+        lists.push(changed(heap, plan, at, with_goal)?)?;
+        lists.push(changed(heap, plan, at, with_tag)?)?;
+        lists.push(changed(heap, plan, at, swapped)?)?;
+    }
+    let mut more = plan.to_vec(heap)?;
+    more.push(NO_NODE)?;
+    lists.push(more)?;
+    Ok(lists)
+}
+
+/// The lists near a plan, each ranked; the last has a node more than the plan.
+fn near_agree<S: Space>(
     rt: &impl Abort,
     heap: Global,
     space: &S,
@@ -162,21 +177,14 @@ fn lists_near<S: Space>(
     plans: &[Vec<Node>],
     b: &mut Buffers,
 ) -> Result<(), Fail> {
-    let root = space.root();
-    for at in 0..plan.len() {
-        let beginning = &plan[0..at];
-        ranks_as(rt, space, beginning, wanted(beginning, plans, root), b);
-        for list in [
-            changed(heap, plan, at, with_goal)?,
-            changed(heap, plan, at, with_tag)?,
-            changed(heap, plan, at, swapped)?,
-        ] {
-            ranks_as(rt, space, &list, wanted(&list, plans, root), b);
-        }
+    let lists = lists_near(heap, plan)?;
+    for list in &lists {
+        ranks_as(rt, space, list, wanted(list, plans, space.root()), b);
     }
-    let mut more = plan.to_vec(heap)?;
-    more.push(NO_NODE)?;
-    ranks_as(rt, space, &more, Err(Refusal::NodesFollow(plan.len())), b);
+    let Some(more) = lists.last() else {
+        return Err(Fail::new("a plan with a node more is near it"));
+    };
+    ranks_as(rt, space, more, Err(Refusal::NodesFollow(plan.len())), b);
     Ok(())
 }
 
@@ -242,7 +250,7 @@ fn numbers_agree<S: Space>(
         assert_eq!(rt; common(plan, &b.plan), plan.len());
         assert_eq!(rt; b.plan.last().copied(), Some(NO_NODE));
         assert_eq!(rt; rank(space, plan, &mut b.tallies, &mut b.work), Ok(number));
-        lists_near(rt, heap, space, plan, plans, &mut b)?;
+        near_agree(rt, heap, space, plan, plans, &mut b)?;
     }
     ranks_as(rt, space, &[], wanted(&[], plans, space.root()), &mut b);
     past_and_short(rt, heap, space, n, z, &mut b)?;

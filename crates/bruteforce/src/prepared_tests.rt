@@ -5,7 +5,7 @@ use crate::endings::{ROWS, ending_of};
 use crate::enumeration::{all_plans, longest};
 use crate::generated::{Dice, any_table};
 use crate::memo_files::{encoded, opened};
-use crate::number_tests::{Buffers, NO_NODE, common, make_buffers};
+use crate::number_tests::{Buffers, NO_NODE, common, lists_near, make_buffers, wanted};
 use campaigns::campaign::making::make_prepared;
 use campaigns::conduct::conduct_prepared;
 use campaigns::refusal::CampaignRefusal;
@@ -15,6 +15,7 @@ use numbering::node::Node;
 use numbering::refusal::Refusal;
 use prepared::prepared::{Prepared, prepare};
 use prepared::refusal::PrepareRefusal;
+use spaces::space::Space;
 use std::alloc::Global;
 use std::process::Abort;
 use std::test::Fail;
@@ -49,6 +50,24 @@ fn numbers_agree(rt: &impl Abort, space: &Prepared, plans: &[Vec<Node>], b: &mut
             Err(Refusal::PlanShort)
         );
     }
+}
+
+/// The lists near a plan, each ranked.
+fn near_agree(
+    rt: &impl Abort,
+    heap: Global,
+    space: &Prepared,
+    plan: &[Node],
+    plans: &[Vec<Node>],
+    b: &mut Buffers,
+) -> Result<(), Fail> {
+    for list in lists_near(heap, plan)? {
+        assert_eq!(rt;
+            space.rank(&list, &mut b.work),
+            wanted(&list, plans, space.root())
+        );
+    }
+    Ok(())
 }
 
 /// A whole campaign with room for every find, conducted over the rows engine.
@@ -109,6 +128,9 @@ fn prepared_memos(rt: HostRuntime) -> Result<(), Fail> {
         let z = longest(plans);
         let mut b = make_buffers(heap, 0, z, z.saturating_add(1))?;
         numbers_agree(&rt, &space, plans, &mut b);
+        for plan in plans {
+            near_agree(&rt, heap, &space, plan, plans, &mut b)?;
+        }
         for baseline in 0..plans.len() as u64 {
             campaign_agrees(&rt, heap, &space, plans, baseline, &mut b)?;
         }

@@ -35,16 +35,13 @@ module _ (sums : List ℕ) (number i : ℕ) (some : 0 < length sums) (least : ge
     high = λ h. leb-false _ _ (point.1 (i - 1 + 1) 0 (omega (arith, past_first)) h);
   }
 
-module _ (m : Meaning) (law : Lawful m) (g number : ℕ) (h : number < count m (Some g)) where
-  -- a goal that has a plan has an alternative
-  some_item : 0 < length (m.lists g)
-  some_item = ⊎_elim (λ l. l) (λ l. absurd (omega (arith, h, count_goal m law g, ap (all_ways (count m)) (nil_from_length (m.lists g) (omega arith))))) (cases_lt 0 (length (m.lists g)))
-
+-- A goal with an alternative.
+module _ (m : Meaning) (g : ℕ) (item : 0 < length (m.lists g)) where
   module _ (sums : List (Vec ℕ Global)) (s : Summed m (map vec_items sums)) where
     pub row_within : g < length sums
     row_within =
         ⊎_elim (λ l. l)
-        (λ l. absurd (omega (arith, some_item, length-map-range_with_len (sum_before m g) 0 (length (m.lists g)), ap length (sym (get_or_past (map vec_items sums) g [] (omega (arith, length-map sums vec_items))) ∙ s g))))
+        (λ l. absurd (omega (arith, item, length-map-range_with_len (sum_before m g) 0 (length (m.lists g)), ap length (sym (get_or_past (map vec_items sums) g [] (omega (arith, length-map sums vec_items))) ∙ s g))))
         (cases_lt g (length sums))
 
     -- the list that is read at the goal has its sums
@@ -52,35 +49,42 @@ module _ (m : Meaning) (law : Lawful m) (g number : ℕ) (h : number < count m (
     row_is k row e is =
         ap vec_items is ∙ ap (λ j. vec_items (get_or sums j row)) e ∙ sym (get_or-map vec_items sums g row [] row_within) ∙ s g
 
+-- A list that has the sums of a goal.
+module _ (m : Meaning) (g : ℕ) (sums : List ℕ) (e : sums ≡ goal_sums m g) where
+  pub long : length sums ≡ length (m.lists g)
+  long = ap length e ∙ length-map-range_with_len (sum_before m g) 0 (length (m.lists g))
+
+  pub sum_at : (k d : ℕ) → k < length (m.lists g) → get_or sums k d ≡ sum_before m g k
+  sum_at k d l = ap (λ xs. get_or xs k d) e ∙ get_or-map-range_with_len (sum_before m g) 0 (length (m.lists g)) k k d l (omega arith)
+
+  pub rises : IsNonDecreasing sums
+  rises =
+      IsNonDecreasingBy-from_all_adjacent (λ x. x) sums
+      (λ k d l. omega (arith, long, sum_at k d (omega (arith, long)), sum_at (k + 1) d (omega (arith, long)), take_rises (count m) (m.lists g) k, ap (sum_before m g) (add-one k)))
+
+module _ (m : Meaning) (law : Lawful m) (g number : ℕ) (h : number < count m (Some g)) where
+  -- a goal that has a plan has an alternative
+  pub some_item : 0 < length (m.lists g)
+  some_item = ⊎_elim (λ l. l) (λ l. absurd (omega (arith, h, count_goal m law g, ap (all_ways (count m)) (nil_from_length (m.lists g) (omega arith))))) (cases_lt 0 (length (m.lists g)))
+
   -- A list that has the sums of the goal.
   module _ (sums : List ℕ) (e : sums ≡ goal_sums m g) where
-    long : length sums ≡ length (m.lists g)
-    long = ap length e ∙ length-map-range_with_len (sum_before m g) 0 (length (m.lists g))
-
-    sum_at : (k d : ℕ) → k < length (m.lists g) → get_or sums k d ≡ sum_before m g k
-    sum_at k d l = ap (λ xs. get_or xs k d) e ∙ get_or-map-range_with_len (sum_before m g) 0 (length (m.lists g)) k k d l (omega arith)
-
-    pub rises : IsNonDecreasing sums
-    rises =
-        IsNonDecreasingBy-from_all_adjacent (λ x. x) sums
-        (λ k d l. omega (arith, long, sum_at k d (omega (arith, long)), sum_at (k + 1) d (omega (arith, long)), take_rises (count m) (m.lists g) k, ap (sum_before m g) (add-one k)))
-
     pub some : 0 < length sums
-    some = omega (arith, long, some_item)
+    some = omega (arith, long m g sums e, some_item)
 
     -- the first sum is 0
     pub least : get_or sums 0 0 ≤ number
-    least = omega (arith, sum_at 0 0 some_item)
+    least = omega (arith, sum_at m g sums e 0 0 some_item)
 
     module _ (r : ℕ) (f : Sought sums number r) where
       pub under : r < length (m.lists g)
-      under = omega (arith, f.before, long)
+      under = omega (arith, f.before, long m g sums e)
 
       -- the number is below the sum behind the place
       high : number < sum_before m g (r + 1)
       high =
           ⊎_elim
-          (λ (l : r + 1 < length (m.lists g)). omega (arith, sum_at (r + 1) 0 l, f.high (omega (arith, long))))
+          (λ (l : r + 1 < length (m.lists g)). omega (arith, sum_at m g sums e (r + 1) 0 l, f.high (omega (arith, long m g sums e))))
           (λ (l : length (m.lists g) ≤ r + 1). omega (arith, h, count_goal m law g, ap (all_ways (count m)) (take_all (r + 1) (m.lists g) l)))
           (cases_lt (r + 1) (length (m.lists g)))
 
@@ -90,6 +94,6 @@ module _ (m : Meaning) (law : Lawful m) (g number : ℕ) (h : number < count m (
           record {
             index = r;
             found = found;
-            within = omega (arith, high, ways_more (count m) (m.lists g) r _ found, sum_at r 0 under, f.low);
-            sum = omega (arith, sum_at r 0 under, f.low);
+            within = omega (arith, high, ways_more (count m) (m.lists g) r _ found, sum_at m g sums e r 0 under, f.low);
+            sum = omega (arith, sum_at m g sums e r 0 under, f.low);
           }

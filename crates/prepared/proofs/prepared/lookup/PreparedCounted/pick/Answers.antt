@@ -8,21 +8,21 @@ use Rattle.prepared.proofs.prepared.lookup.PreparedCounted.pick.Goals.{After-as_
 pub index-requires : goal.index-requires
 index-requires c =
     let p = c.args.self.now in
-    omega (arith, c.from.ensures, p.sums.ok.0, falling.row_within (table p) p.table.lawful c.args.goal c.args.number c.requires.below p.sums.items p.summed)
+    omega (arith, c.from.ensures, p.sums.ok.0, falling.row_within (table p) c.args.goal (falling.some_item (table p) p.table.lawful c.args.goal c.args.number c.requires.below) p.sums.items p.summed)
 
 -- the sums that are searched
 row : (c : After-as_slice-sums) → c.as_slice-sums.result.now ≡ goal_sums (table c.args.self.now) c.args.goal
 row c =
     let p = c.args.self.now in
     c.as_slice-sums.ensures.value
-    ∙ falling.row_is (table p) p.table.lawful c.args.goal c.args.number c.requires.below p.sums.items p.summed c.from.result c.index.result.now c.from.ensures c.index.ensures
+    ∙ falling.row_is (table p) c.args.goal (falling.some_item (table p) p.table.lawful c.args.goal c.args.number c.requires.below) p.sums.items p.summed c.from.result c.index.result.now c.from.ensures c.index.ensures
 
 pub seek-place-requires : goal.seek-place-requires
 seek-place-requires c =
     let p = c.args.self.now in
     let sums = row (goal.at.seek-place-requires c).After-as_slice-sums in
     record {
-      sorted = falling.rises (table p) p.table.lawful c.args.goal c.args.number c.requires.below _ sums;
+      sorted = falling.rises (table p) c.args.goal _ sums;
       some = falling.some (table p) p.table.lawful c.args.goal c.args.number c.requires.below _ sums;
       low = falling.least (table p) p.table.lawful c.args.goal c.args.number c.requires.below _ sums;
     }
