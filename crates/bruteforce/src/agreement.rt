@@ -5,7 +5,9 @@ use crate::table::{Table, list_of};
 use numbering::counting::count;
 use numbering::refusal::Refusal;
 use numbering::tally::Tally;
-use spaces::space::Space;
+use spaces::kind::Kind;
+use spaces::mask::KindMask;
+use spaces::space::{Alternative, Space};
 use spaces::table as tables;
 use std::alloc::Global;
 use std::process::Abort;
@@ -13,7 +15,45 @@ use std::test::Fail;
 
 const MARK: Tally = Tally { count: 77, size: 7 };
 
-/// The list of a goal: one by one, past its end, by the iterator, in one piece, and behind another.
+/// What a mask leaves of a goal's list, against the kinds that it has.
+fn same_kinds<S: Space>(
+    rt: &impl Abort,
+    heap: Global,
+    space: &S,
+    list: &[Alternative],
+    goal: u16,
+    bits: u8,
+    kinds: &[Kind],
+) -> Result<(), Fail> {
+    let kept = space.list_of_kinds(goal, KindMask::new(bits)?, heap)?;
+    let wanted = list
+        .iter()
+        .copied()
+        .filter(|alternative| kinds.contains(&alternative.kind));
+    assert_eq!(rt; kept.iter().copied().eq(wanted), true);
+    Ok(())
+}
+
+/// Masks of a scan, of joins and a sort, and of nothing.
+fn same_masks<S: Space>(
+    rt: &impl Abort,
+    heap: Global,
+    space: &S,
+    list: &[Alternative],
+    goal: u16,
+) -> Result<(), Fail> {
+    let joins = [
+        Kind::HashJoin,
+        Kind::MergeJoin,
+        Kind::NestedLoops,
+        Kind::Sort,
+    ];
+    same_kinds(rt, heap, space, list, goal, 0b000_0001, &[Kind::Scan])?;
+    same_kinds(rt, heap, space, list, goal, 0b101_1100, &joins)?;
+    same_kinds(rt, heap, space, list, goal, 0, &[])
+}
+
+/// The list of a goal: one by one, past its end, by the iterator, in one piece, behind another, and what masks leave of it.
 fn same_list<S: Space>(
     rt: &impl Abort,
     heap: Global,
@@ -36,7 +76,7 @@ fn same_list<S: Space>(
     space.list_into(goal, &mut twice)?;
     assert_eq!(rt; twice.len() / 2, list.len());
     assert_eq!(rt; twice.starts_with(list) && twice.ends_with(list), true);
-    Ok(())
+    same_masks(rt, heap, space, list, goal)
 }
 
 /// The questions, in and out of range.

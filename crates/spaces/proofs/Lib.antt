@@ -1,4 +1,5 @@
 pub mod Filling
 pub mod Keeping
+pub mod OneKind
 pub mod Parts
 pub mod Tabling

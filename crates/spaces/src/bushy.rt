@@ -1,13 +1,15 @@
 //! All bushy join trees over some relations.
 
-ghost use Rattle.std.specs.Prelude.{◌≡◌, ◌-◌, ◌^◌, ◌<◌, ◌≤◌, map, Some, None, IfOk, MatchResult, count_ones};
+ghost use Rattle.std.specs.Prelude.{◌≡◌, ◌==◌, ◌-◌, ◌^◌, ◌<◌, ◌≤◌, cond, map, Some, None, IfOk, MatchResult, count_ones};
 ghost use Rattle.spaces.specs.Bushes.{bushes, deposit, scan, split};
 ghost use Rattle.spaces.specs.Kinds.{arity};
+ghost use Rattle.spaces.specs.declared.kind.Kind.TheVariants.{Scan};
 ghost use Rattle.spaces.specs.Refusals.{bushy_refusal};
 ghost use Rattle.std.specs.List.{range_with_len};
 ghost use Rattle.spaces.specs.BushesLemmas.{bushes_lawful};
 
 use crate::kind::Kind;
+use crate::mask::KindMask;
 use crate::refusal::MakeRefusal;
 use crate::space::{Alternative, Space};
 use std::alloc::{AllocError, Global};
@@ -37,6 +39,17 @@ impl Bushy {
             relations: relations as u8,
             join,
         })
+    }
+
+    /// The kind of all alternatives of a goal: those of a set of one relation are scans, all others joins.
+    fn kind_at(&self, goal: u16) -> Kind
+        ensures { result ≡ cond (count_ones goal == 1) Scan self.now.join }
+    {
+        if goal.count_ones() == 1 {
+            Kind::Scan
+        } else {
+            self.join
+        }
     }
 }
 
@@ -139,5 +152,18 @@ impl Space for Bushy {
             return vec![in heap; scan_of(goal); 1];
         }
         splits(self.join, goal, heap)
+    }
+
+    // no list is made where the mask leaves nothing of it
+    fn list_of_kinds(
+        &self,
+        goal: u16,
+        mask: KindMask,
+        heap: Global,
+    ) -> Result<Vec<Alternative>, AllocError> {
+        if !mask.has(self.kind_at(goal)) {
+            return Ok(Vec::new(heap));
+        }
+        self.list(goal, heap)
     }
 }

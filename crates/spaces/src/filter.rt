@@ -4,7 +4,7 @@ ghost use Rattle.std.specs.Prelude.{◌≡◌};
 ghost use Rattle.spaces.specs.Filters.{filtered};
 ghost use Rattle.spaces.specs.FiltersLemmas.{filtered_lawful};
 
-use crate::keep::{Test, kept_at, kept_width};
+use crate::keep::{kept_at, kept_width};
 use crate::mask::KindMask;
 use crate::space::{Alternative, Space};
 use std::alloc::{AllocError, Global};
@@ -47,8 +47,6 @@ impl<S: Space> Space for KindFilter<S> {
     }
 
     fn list(&self, goal: u16, heap: Global) -> Result<Vec<Alternative>, AllocError> {
-        let mut list = self.below.list(goal, heap)?;
-        list.retain(|alternative| self.mask.passes(*alternative));
-        Ok(list)
+        self.below.list_of_kinds(goal, self.mask, heap)
     }
 }

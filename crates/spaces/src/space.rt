@@ -1,11 +1,13 @@
 //! The interface of a plan space.
 
-ghost use Rattle.std.specs.Prelude.{◌≡◌, length, IfOk};
+ghost use Rattle.std.specs.Prelude.{◌≡◌, filter, length, IfOk};
 ghost use Rattle.std.specs.Iterator.{YieldsFirst, item_count};
 ghost use Rattle.std.specs.List.{slice_get};
+ghost use Rattle.spaces.specs.Masks.{passes};
 ghost use Rattle.spaces.specs.Spaces.{Appended, Lawful, Meaning, ahead};
 
 use crate::kind::Kind;
+use crate::mask::KindMask;
 use std::alloc::{AllocError, Global};
 
 /// One way to reach a goal: an operator and the goals of its children. An unused child is 0.
@@ -53,6 +55,22 @@ pub trait Space {
                 list.push(alternative)?;
             }
         }
+        Ok(list)
+    }
+
+    /// The alternatives of a goal whose kinds are in the mask, in their order, in a list of its own.
+    ///
+    /// A space that knows what kinds a goal has without a look at each alternative answers it itself.
+    fn list_of_kinds(
+        &self,
+        goal: u16,
+        mask: KindMask,
+        heap: Global,
+    ) -> Result<Vec<Alternative>, AllocError>
+        ensures { IfOk result (λ list. list.items ≡ filter (passes mask.bits) ((meaning self.now).lists goal)) }
+    {
+        let mut list = self.list(goal, heap)?;
+        list.retain(|alternative| mask.has(alternative.kind));
         Ok(list)
     }
 
